@@ -1,0 +1,10 @@
+pub mod Tests
+pub mod SignLaws
+pub mod NumberLaws
+pub mod NumberSpelling
+pub mod IntegerLaws
+pub mod IntegerSpelling
+pub mod DateLaws
+pub mod PrintLaws
+pub mod PrintSpelling
+pub mod Cases

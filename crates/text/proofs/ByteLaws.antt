@@ -1,0 +1,55 @@
+-- Laws of the byte classes.
+use Prim.Native.Nat.{ℕ, _≤_, _<_}
+use mathlib.Core.Path.{_≡_, refl, sym, ap, _∙_}
+use mathlib.Core.Logic.{_≢_}
+use mathlib.Core.Bool.{Bool, true, false, cond}
+use native.Mathlib.Omega.{arith}
+use borrow.Author.Tests.{le-leb, lt-leb, eq-eqb, ne-eqb, eqb-true}
+use lib.Dec.{leb, eqb}
+use Rattle.text.specs.Bytes.{permitted, classOf}
+use Rattle.text.specs.declared.ByteClass.{ByteClass}
+use Rattle.text.specs.declared.ByteClass.the-variants.{Space, Quote, Permitted, Forbidden}
+
+pub space-class : (b : ℕ) → b ≡ 32 → Space ≡ classOf b
+unfolding classOf
+space-class b h = simp (eq-eqb b 32 h)
+
+pub quote-class : (b : ℕ) → b ≡ 34 → Quote ≡ classOf b
+unfolding classOf
+quote-class b h = rw h
+
+pub low-class : (b : ℕ) → 32 ≤ b → b ≤ 126 → b ≢ 32 → b ≢ 34 → Permitted ≡ classOf b
+unfolding classOf permitted
+low-class b l h n m = simp (ne-eqb b 32 n, ne-eqb b 34 m, le-leb 32 b l, le-leb b 126 h)
+
+pub high-class : (b : ℕ) → 128 ≤ b → Permitted ≡ classOf b
+unfolding classOf permitted
+high-class b h = simp (ne-eqb b 32 (omega arith), ne-eqb b 34 (omega arith), le-leb 32 b (omega arith), lt-leb b 126 (omega arith), le-leb 128 b h)
+
+pub control-class : (b : ℕ) → b < 32 → Forbidden ≡ classOf b
+unfolding classOf permitted
+control-class b h = simp (ne-eqb b 32 (omega arith), ne-eqb b 34 (omega arith), lt-leb 32 b h)
+
+pub delete-class : (b : ℕ) → b ≡ 127 → Forbidden ≡ classOf b
+unfolding classOf permitted
+delete-class b h = rw h
+
+-- every class but the forbidden one is permitted
+abbrev pub allowed : ByteClass → Bool
+allowed Space = true
+allowed Quote = true
+allowed Permitted = true
+allowed Forbidden = false
+
+pub class-permits : (b : ℕ) → permitted b ≡ allowed (classOf b)
+unfolding classOf permitted
+class-permits b = go (eqb b 32) (eqb b 34) (permitted b) (λ h. rw (eqb-true b 32 h)) (λ h. rw (eqb-true b 34 h))
+  where
+    go : (s q p : Bool) → (s ≡ true → p ≡ true) → (q ≡ true → p ≡ true) → p ≡ allowed (cond s Space (cond q Quote (cond p Permitted Forbidden)))
+    go true q p f g = f refl
+    go false true p f g = g refl
+    go false false true f g = refl
+    go false false false f g = refl
+
+pub class-allows : (b : ℕ) (k : ByteClass) → k ≡ classOf b → allowed k ≡ permitted b
+class-allows b k e = ap allowed e ∙ sym (class-permits b)

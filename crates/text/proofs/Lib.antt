@@ -1,0 +1,10 @@
+pub mod Branch
+pub mod Lists
+pub mod ByteLaws
+pub mod LineLaws
+pub mod FieldLaws
+pub mod Bounds
+pub mod Walk
+pub mod Counting
+pub mod LineSpelling
+pub mod FieldSpelling

@@ -1,0 +1,7 @@
+pub mod Bytes
+pub mod Lines
+pub mod Looks
+pub mod FirstField
+pub mod Fields
+pub mod LineRules
+pub mod FieldRules

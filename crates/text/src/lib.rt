@@ -1,0 +1,262 @@
+// Bytes, lines and fields of a file; nothing of IDF. Every other layer reads bytes through this one.
+ghost use mathlib.Core.Path.{_≡_};
+ghost use Prim.Native.Nat.{_+_, _^_, _≤_, _<_};
+ghost use lib.ListN.{length, drop};
+ghost use Rattle.text.specs.Bytes.{classOf, permitted, begins, allOf};
+ghost use Rattle.text.specs.Lines.{endLen, lineEnd};
+ghost use Rattle.text.specs.Looks.{lookOf};
+ghost use Rattle.text.specs.FirstField.{passesOf, runLen, endsWell, bareAt, quotedAt, fieldOf};
+ghost use Rattle.text.specs.Fields.{countOf};
+
+// The class of a byte. Byte 10 is forbidden: it never stands inside a line.
+pub enum ByteClass {
+    Space,
+    Quote,
+    Permitted,
+    Forbidden,
+}
+
+// The class of a byte of a line.
+pub fn class(b: u8) -> ByteClass
+    ensures { λ r. ⌜ r ≡ classOf b ⌝ }
+{
+    match b {
+        32 => ByteClass::Space,
+        34 => ByteClass::Quote,
+        33 | 35..=126 | 128..=255 => ByteClass::Permitted,
+        _ => ByteClass::Forbidden,
+    }
+}
+
+// Whether a line other than a comment may hold a byte.
+pub fn permits(b: u8) -> bool
+    ensures { λ r. ⌜ r ≡ permitted b ⌝ }
+{
+    match class(b) {
+        ByteClass::Space => true,
+        ByteClass::Quote => true,
+        ByteClass::Permitted => true,
+        ByteClass::Forbidden => false,
+    }
+}
+
+// Whether no byte of a line is forbidden.
+pub fn clean(line: &[u8]) -> bool
+    ensures { λ r. ⌜ r ≡ allOf permitted (now (line .entry)) ⌝ }
+{
+    let mut i = 0;
+    while i < line.len() {
+        if !permits(line[i]) {
+            return false;
+        }
+        i += 1;
+    }
+    true
+}
+
+// How many bytes end a line at a place: one at byte 10, else none.
+fn end_len(s: &[u8], at: usize) -> usize
+    requires { ⌜ at < length (now s) ⌝ }
+    ensures { λ r. ⌜ r ≡ endLen (drop at (now (s .entry))) ⌝ }
+{
+    if s[at] == 10 { 1 } else { 0 }
+}
+
+// Where a line's content ends and where the next line begins, counted from the line's first byte.
+pub struct LineEnd {
+    pub content: usize,
+    pub next: usize,
+}
+
+// The end of the first line of a part of a file.
+pub fn line_end(s: &[u8]) -> LineEnd
+    ensures { λ r. ⌜ r ≡ lineEnd (now (s .entry)) ⌝ }
+{
+    let mut i = 0;
+    while i < s.len() {
+        let n = end_len(s, i);
+        if 0 < n {
+            return LineEnd {
+                content: i,
+                next: i + n,
+            };
+        }
+        i += 1;
+    }
+    LineEnd {
+        content: i,
+        next: i,
+    }
+}
+
+// Whether a slice begins with a byte.
+pub fn begins_with(s: &[u8], b: u8) -> bool
+    ensures { λ r. ⌜ r ≡ begins b (now (s .entry)) ⌝ }
+{
+    if s.len() == 0 {
+        return false;
+    }
+    s[0] == b
+}
+
+// A run of bytes, by what it is made of.
+enum Run {
+    Spaces,
+    Bare,
+    Quoted,
+}
+
+// Whether a byte belongs to a run.
+fn passes(k: Run, b: u8) -> bool
+    ensures { λ r. ⌜ r ≡ passesOf k b ⌝ }
+{
+    match k {
+        Run::Spaces => b == 32,
+        Run::Bare => { if b == 32 { false } else { b != 34 } }
+        Run::Quoted => b != 34,
+    }
+}
+
+// The length of the run at the front.
+fn run_len(s: &[u8], k: Run) -> usize
+    ensures { λ r. ⌜ r ≡ runLen k (now (s .entry)) ⌝ }
+{
+    let mut i = 0;
+    while i < s.len() {
+        if !passes(k, s[i]) {
+            return i;
+        }
+        i += 1;
+    }
+    i
+}
+
+// What a line is at first sight: a comment has # in column 1; a blank line has spaces or nothing.
+pub enum LineLook {
+    Comment,
+    Blank,
+    Other,
+}
+
+// What a line is at first sight.
+pub fn look(line: &[u8]) -> LineLook
+    ensures { λ r. ⌜ r ≡ lookOf (now (line .entry)) ⌝ }
+{
+    if begins_with(line, 35) {
+        return LineLook::Comment;
+    }
+    if run_len(line, Run::Spaces) == line.len() {
+        return LineLook::Blank;
+    }
+    LineLook::Other
+}
+
+// Whether a field may end before the byte at a place: at the line's end, or before a space.
+fn ends(s: &[u8], at: usize) -> bool
+    requires { ⌜ at ≤ length (now s) ⌝ }
+    ensures { λ r. ⌜ r ≡ endsWell (drop at (now (s .entry))) ⌝ }
+{
+    if at == s.len() {
+        return true;
+    }
+    s[at] == 32
+}
+
+// The first field of a part of a line: none is left; where it stands, its quotes left off, and the place after it; broken quoting.
+pub enum FieldAnswer {
+    Nothing,
+    Got {
+        start: usize,
+        len: usize,
+        quoted: bool,
+        next: usize,
+    },
+    Broken,
+}
+
+// A bare field at the front of s, k bytes into the part.
+fn bare(s: &[u8], k: usize) -> FieldAnswer
+    requires { ⌜ k + length (now s) < 2 ^ 64 ⌝ }
+    ensures { λ r. ⌜ r ≡ bareAt k (now (s .entry)) ⌝ }
+{
+    let n = run_len(s, Run::Bare);
+    if ends(s, n) {
+        FieldAnswer::Got {
+            start: k,
+            len: n,
+            quoted: false,
+            next: k + n,
+        }
+    } else {
+        FieldAnswer::Broken
+    }
+}
+
+// A quoted field: s is what follows the opening quote, k bytes into the part.
+fn quoted(s: &[u8], k: usize) -> FieldAnswer
+    requires { ⌜ k + length (now s) < 2 ^ 64 ⌝ }
+    ensures { λ r. ⌜ r ≡ quotedAt k (now (s .entry)) ⌝ }
+{
+    let n = run_len(s, Run::Quoted);
+    if n >= s.len() {
+        return FieldAnswer::Broken;
+    }
+    if ends(s, n + 1) {
+        FieldAnswer::Got {
+            start: k,
+            len: n,
+            quoted: true,
+            next: k + n + 1,
+        }
+    } else {
+        FieldAnswer::Broken
+    }
+}
+
+// The first field of a part of a line.
+pub fn field(s: &[u8]) -> FieldAnswer
+    ensures { λ r. ⌜ r ≡ fieldOf (now (s .entry)) ⌝ }
+{
+    let at = run_len(s, Run::Spaces);
+    if at >= s.len() {
+        return FieldAnswer::Nothing;
+    }
+    if s[at] == 34 {
+        quoted(&s[at + 1..], at + 1)
+    } else {
+        bare(&s[at..], at)
+    }
+}
+
+// How many fields a line has, unless its quoting is broken.
+pub enum CountAnswer {
+    Fields(usize),
+    Bad,
+}
+
+// The number of fields of a line.
+pub fn count_fields(line: &[u8]) -> CountAnswer
+    ensures { λ r. ⌜ r ≡ countOf (now (line .entry)) ⌝ }
+{
+    let mut at = 0;
+    let mut n = 0;
+    loop {
+        match field(&line[at..]) {
+            FieldAnswer::Nothing => {
+                return CountAnswer::Fields(n);
+            }
+            FieldAnswer::Broken => {
+                return CountAnswer::Bad;
+            }
+            FieldAnswer::Got {
+                start: _,
+                len: _,
+                quoted: _,
+                next,
+            } => {
+                at += next;
+                n += 1;
+            }
+        }
+    }
+}
