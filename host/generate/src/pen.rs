@@ -1,0 +1,156 @@
+//! The pen: lays down lines field by field, each spelled in one of the ways that mean the same.
+
+use crate::random::Random;
+use crate::values::{self, ONE};
+
+/// A file being written, and the chances by which its spelling varies.
+pub struct Pen<'r> {
+    /// Where chances come from.
+    pub random: &'r mut Random,
+    /// What is written so far.
+    pub out: Vec<u8>,
+    line: usize,
+    first: bool,
+}
+
+impl<'r> Pen<'r> {
+    /// An empty file.
+    pub fn new(random: &'r mut Random) -> Self {
+        Pen { random, out: Vec::new(), line: 0, first: true }
+    }
+
+    /// Writes a keyword in a mixture of letter case.
+    pub fn keyword(&mut self, before: &str, name: &str) {
+        self.gap();
+        let style = self.random.below(8);
+        for byte in before.bytes().chain(name.bytes()) {
+            let small = style == 0 || style == 1 && self.random.one_in(2);
+            self.out.push(if small { byte.to_ascii_lowercase() } else { byte });
+        }
+    }
+
+    /// Writes a word as it is.
+    pub fn word(&mut self, word: &str) {
+        self.gap();
+        self.out.extend_from_slice(word.as_bytes());
+    }
+
+    /// Writes one word of a list.
+    pub fn one_of(&mut self, list: &[&str]) {
+        let word = self.random.pick(list);
+        self.word(word);
+    }
+
+    /// Writes an integer.
+    pub fn integer(&mut self, value: i64) {
+        self.gap();
+        self.sign(value);
+        self.whole(value.unsigned_abs());
+    }
+
+    /// Writes a number by its count of hundred-thousandths.
+    pub fn number(&mut self, count: i64) {
+        self.gap();
+        self.sign(count);
+        let magnitude = count.unsigned_abs();
+        self.whole(magnitude / ONE as u64);
+        let decimals = format!("{:05}", magnitude % ONE as u64);
+        let needed = decimals.trim_end_matches('0').len();
+        let shown = match self.random.below(4) {
+            0 => needed,
+            1 => needed.max(1),
+            2 => 5,
+            _ => needed + self.random.below(9 - needed),
+        };
+        if shown > 0 {
+            let zeros = "0".repeat(shown.saturating_sub(5));
+            let text = format!(".{}{zeros}", &decimals[..shown.min(5)]);
+            self.out.extend_from_slice(text.as_bytes());
+        }
+    }
+
+    /// Writes a text, bare or in quotes as it allows.
+    pub fn text(&mut self, text: &[u8]) {
+        let first = self.first;
+        self.gap();
+        let column_one = self.out.len() == self.line;
+        let must = text.is_empty()
+            || text.contains(&b' ')
+            || first && text[0] == b'.'
+            || column_one && text[0] == b'#';
+        if must || self.random.one_in(4) {
+            self.out.push(b'"');
+            self.out.extend_from_slice(text);
+            self.out.push(b'"');
+        } else {
+            self.out.extend_from_slice(text);
+        }
+    }
+
+    /// Writes any text.
+    pub fn any_text(&mut self) {
+        let text = values::text(self.random);
+        self.text(&text);
+    }
+
+    /// Writes any number, or one of at least 0.
+    pub fn any_number(&mut self, negative: bool) {
+        let count = values::count(self.random, negative);
+        self.number(count);
+    }
+
+    /// Ends the line.
+    pub fn end(&mut self) {
+        if self.random.one_in(10) {
+            self.spaces(3);
+        }
+        self.out.push(b'\n');
+        self.line = self.out.len();
+        self.first = true;
+    }
+
+    /// Writes comments and blank lines, or none.
+    pub fn free_lines(&mut self) {
+        while self.random.one_in(6) {
+            match self.random.below(3) {
+                0 => self.spaces(4),
+                1 => self.out.extend_from_slice(b"# a comment"),
+                _ => self.out.extend_from_slice(b"#\t\"\r\x00\x7F.HEADER"),
+            }
+            self.out.push(b'\n');
+            self.line = self.out.len();
+        }
+    }
+
+    /// Writes the spaces before a field.
+    fn gap(&mut self) {
+        if !self.first {
+            self.out.push(b' ');
+        }
+        if self.random.one_in(8) {
+            self.spaces(4);
+        }
+        self.first = false;
+    }
+
+    fn spaces(&mut self, most: usize) {
+        let count = self.random.below(most + 1);
+        self.out.resize(self.out.len() + count, b' ');
+    }
+
+    fn sign(&mut self, value: i64) {
+        match value {
+            i64::MIN..=-1 => self.out.push(b'-'),
+            0 if self.random.one_in(6) => self.out.push(b'-'),
+            _ if self.random.one_in(12) => self.out.push(b'+'),
+            _ => (),
+        }
+    }
+
+    /// Writes digits, sometimes after zeros that mean nothing.
+    fn whole(&mut self, value: u64) {
+        let zeros = if self.random.one_in(12) { self.random.below(14) } else { 0 };
+        let text = format!("{}{value}", "0".repeat(zeros));
+        self.out.extend_from_slice(text.as_bytes());
+    }
+}

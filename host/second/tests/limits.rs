@@ -1,0 +1,148 @@
+//! Sizes and lent slices: what needs large files, or a look at what is left in a slice.
+
+use second::{canon, check, judge, read, rows, same, write, Reader, Reply};
+
+const LARGEST_FILE: usize = 16_777_216;
+const LIBRARY: &[u8] = b".HEADER\nLIBRARY_FILE 3.0 s 2024/05/06.07:08:09 1\n.END_HEADER\n";
+
+const fn reply(number: u64, line: u64, count: u64) -> Reply {
+    Reply { number, line, count }
+}
+
+/// A library followed by a comment, of the size asked for.
+fn padded(size: usize) -> Vec<u8> {
+    let mut file = [LIBRARY, b"#"].concat();
+    file.resize(size, b'x');
+    file
+}
+
+/// A library of one component with many points, each line of eight bytes.
+fn many_points(size: usize) -> Vec<u8> {
+    let mut file = [LIBRARY, b".ELECTRICAL\ng p MM 1\n0 0 0 0\n"].concat();
+    while file.len() + 64 < size {
+        file.extend_from_slice(b"0 1 0 0\n0 0 0 0\n");
+    }
+    file.extend_from_slice(b".END_ELECTRICAL\n");
+    file
+}
+
+#[test]
+fn a_file_of_the_largest_size_is_judged() {
+    assert_eq!(check(&padded(LARGEST_FILE)), reply(0, 0, 3));
+    assert_eq!(check(&vec![9; LARGEST_FILE]), reply(3, 1, 0));
+}
+
+#[test]
+fn a_larger_file_is_refused_before_a_byte_is_seen() {
+    let large = vec![9; LARGEST_FILE + 1];
+    let mut room = [-1; 20];
+    assert_eq!(check(&large), reply(1, 0, 0));
+    assert_eq!(read(&large, &mut room), reply(1, 0, 0));
+    assert_eq!(Reader::open(&large).next(&mut room), reply(1, 0, 0));
+    assert_eq!(room, [-1; 20]);
+    assert_eq!(canon(&large), Err(reply(1, 0, 0)));
+    assert_eq!(same(&large, b""), (reply(1, 0, 0), 1));
+    assert_eq!(same(b"", &large), (reply(13, 1, 0), 1));
+    assert_eq!(judge(LIBRARY, &large), (reply(1, 0, 0), 2));
+}
+
+#[test]
+fn rows_are_lent_in_tens() {
+    for length in 0..30 {
+        let mut lent = vec![-1; length];
+        assert_eq!(read(LIBRARY, &mut lent), reply(2, 0, 3));
+        assert_eq!(lent, vec![-1; length]);
+    }
+    let mut lent = [-1; 39];
+    assert_eq!(read(LIBRARY, &mut lent), reply(0, 0, 3));
+    assert_eq!(lent[..10], [10, 0, 0, 0, 0, 0, 0, 0, 0, 0]);
+    assert_eq!(lent[10..20], [11, 2, 300_000, 25, 1, 27, 19, 1, 0, 0]);
+    assert_eq!(lent[20..30], [19, 0, 0, 0, 0, 0, 0, 0, 0, 0]);
+    assert_eq!(lent[30..], [-1; 9]);
+}
+
+#[test]
+fn a_refused_file_gives_its_own_refusal_whatever_is_lent() {
+    assert_eq!(read(b".HEADER\n", &mut []), reply(13, 2, 0));
+    assert_eq!(read(b".HEADER\n\n", &mut [-1; 5]), reply(5, 2, 0));
+}
+
+#[test]
+fn the_writer_takes_whole_rows_only() {
+    let mut list = rows(LIBRARY).expect("a library").concat();
+    let mut out = [b'?'; 70];
+    assert_eq!(write(&[], LIBRARY, &mut out), reply(15, 0, 0));
+    assert_eq!(write(&list[..29], LIBRARY, &mut out), reply(15, 0, 0));
+    assert_eq!(out, [b'?'; 70]);
+    list.extend_from_slice(&[i64::MIN; 9]);
+    assert_eq!(write(&list, LIBRARY, &mut out), reply(0, 0, 61));
+    assert_eq!((&out[..61], &out[61..]), (LIBRARY, &[b'?'; 9][..]));
+    list.push(0);
+    assert_eq!(write(&list, LIBRARY, &mut out), reply(15, 0, 0));
+}
+
+#[test]
+fn the_writer_refuses_any_extreme_column() {
+    let list = rows(LIBRARY).expect("a library").concat();
+    for place in 0..list.len() {
+        for value in [i64::MIN, -1, 62, i64::MAX] {
+            let mut list = list.clone();
+            let integer = place == 17 && value.unsigned_abs() < 100;
+            list[place] = value;
+            let number = write(&list, LIBRARY, &mut [0; 70]).number;
+            assert_eq!(number, if integer { 0 } else { 15 }, "{place} {value}");
+        }
+    }
+}
+
+#[test]
+fn the_writer_looks_at_meaning_before_size_before_room() {
+    let text = vec![b'x'; LARGEST_FILE / 8];
+    let lent = [b"2024/05/06.07:08:09", &text[..]].concat();
+    let header = [10, 0, 0, 0, 0, 0, 0, 0, 0, 0, 11, 2, 300_000, 19, 1, 0, 19, 1, 0, 0, 19];
+    let opening = [140, 0, 0, 0, 0, 0, 0, 0, 0, 0, 141, 19, 1, 19, 1, 0, 0, 0, 0, 0];
+    let circle = [142, 0, 0, 0, 0, 0, 0, 0, 0, 0, 142, 0, 1, 0, 36_000_000, 0, 0, 0, 0, 0];
+    let property = [143, 19, text.len() as i64, 19, text.len() as i64, 0, 0, 0, 0, 0];
+    let mut list = [&header[..], &[0; 9], &opening, &circle].concat();
+    for _ in 0..50_000 {
+        list.extend_from_slice(&property);
+    }
+    assert_eq!(write(&list, &lent, &mut []), reply(15, 0, 0));
+    list.extend_from_slice(&[149, 0, 0, 0, 0, 0, 0, 0, 0, 0]);
+    assert_eq!(write(&list, &lent, &mut []), reply(1, 0, 0));
+    let short = [&list[..70], &list[list.len() - 10..]].concat();
+    assert_eq!(write(&short, &lent, &mut []).number, 14);
+}
+
+#[test]
+fn canonical_text_may_be_over_the_limit() {
+    let file = many_points(LARGEST_FILE);
+    assert_eq!(check(&file).number, 0);
+    assert_eq!(canon(&file), Err(reply(1, 0, 0)));
+    assert_eq!(same(&file, &file), (reply(0, 0, 1), 0));
+}
+
+#[test]
+fn the_readers_slice_is_written_field_by_field() {
+    let mut room = [-1; 7];
+    let mut reader = Reader::open(b"# c\n a \"b c\" \"\"\n\n\"\nx");
+    assert_eq!(reader.next(&mut room), reply(0, 0, 0));
+    assert_eq!(room, [-1; 7]);
+    assert_eq!(reader.next(&mut room[..5]), reply(2, 0, 3));
+    assert_eq!(room, [-1; 7]);
+    assert_eq!(reader.next(&mut room), reply(0, 0, 3));
+    assert_eq!(room, [5, 1, 8, 3, 14, 0, -1]);
+    assert_eq!(reader.next(&mut []), reply(0, 0, 0));
+    assert_eq!(reader.next(&mut room), reply(4, 4, 0));
+    assert_eq!(reader.next(&mut room), reply(0, 0, 1));
+    assert_eq!(room, [19, 1, 8, 3, 14, 0, -1]);
+    assert_eq!(reader.next(&mut room), reply(13, 6, 0));
+}
+
+#[test]
+fn very_many_fields_are_only_counted() {
+    let line = b"x ".repeat(LARGEST_FILE / 2);
+    assert_eq!(check(&line), reply(5, 1, 0));
+    assert_eq!(check(&[b".HEADER\n", &line[8..]].concat()), reply(6, 2, 0));
+    assert_eq!(Reader::open(&line).next(&mut []), reply(2, 0, LARGEST_FILE as u64 / 2));
+}
