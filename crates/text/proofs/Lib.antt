@@ -1,5 +1,6 @@
 pub mod Branch
 pub mod Lists
+pub mod Tables
 pub mod ByteLaws
 pub mod LineLaws
 pub mod FieldLaws

@@ -1,0 +1,15 @@
+-- `form::fields::version_of` meets its contract. Assumes nothing.
+use borrow.Author.Needs.{needs}
+use Rattle.form.proofs.FieldLaws.{version-is}
+use Rattle.form.proofs.fields.version_of.Statement.{statement}
+use Rattle.form.proofs.fields.version_of.Tie as tie
+
+ruleset laws = (version-is, needs)
+
+returns : tie.Need-returns
+returns c = search laws
+
+pub version-of-spec : {M : Type 1} → statement M
+version-of-spec =
+    tie.close
+    (tie.spec returns)

@@ -1,0 +1,76 @@
+-- The layout of each kind of line: what stands before its fields, and their types.
+use Prim.Native.Nat.{ℕ, zero, suc}
+use mathlib.Core.List.{List, [], _∷_, _++_}
+use mathlib.Core.Option.{Option, none, some}
+use mathlib.Core.Bool.{Bool, true, false, cond}
+use lib.Dec.{eqb}
+use Rattle.form.specs.Names.{sectionNames, endWord}
+use Rattle.form.specs.Compare.{wordAt}
+use Rattle.form.specs.Sections.{Section, nth, sectionAt}
+use Rattle.form.specs.Kinds as role
+use Rattle.form.specs.Kinds.{sectionOf, lineOf, Role, roleIn}
+use Rattle.form.specs.declared.Rules.{Rules}
+use Rattle.form.specs.declared.Words.the-variants.{Owners}
+use Rattle.form.specs.declared.FieldType.{FieldType}
+use Rattle.form.specs.declared.FieldType.the-variants.{Word as W}
+
+-- what stands before a record's fields: a keyword, without its period; PROP; nothing
+pub data Front : Type 0 where
+  keyword : List ℕ → Front
+  prop : Front
+  plain : Front
+
+pub record Layout : Type 0 where
+  pub front : Front
+  pub types : List FieldType
+
+abbrev pub ownerField : Bool → List FieldType
+ownerField true = W Owners ∷ []
+ownerField false = []
+
+-- the keyword of section s from 1, where it opens and where it closes
+abbrev pub openWord : ℕ → List ℕ
+openWord zero = []
+openWord (suc n) = wordAt sectionNames n
+
+abbrev pub closeWord : ℕ → List ℕ
+closeWord s = endWord ++ openWord s
+
+-- a data line begins with its first field, a property with PROP
+abbrev pub frontOf : Role → Front
+frontOf role.opening = plain
+frontOf role.closing = plain
+frontOf role.title = plain
+frontOf role.name = plain
+frontOf role.lead = plain
+frontOf role.point = plain
+frontOf role.prop = prop
+frontOf role.entry = plain
+frontOf role.part = plain
+frontOf role.position = plain
+frontOf role.unknown = plain
+
+abbrev pub dataLayout : Role → Option (List FieldType) → Option Layout
+dataLayout r none = none
+dataLayout r (some ts) = some (record { front = frontOf r; types = ts })
+
+-- line n of section s: 0 opens it, 9 closes it, the others are its data lines
+abbrev pub lineIn : ℕ → ℕ → Section → Option Layout
+lineIn zero s d = some (record { front = keyword (openWord s); types = ownerField (d .owned) })
+lineIn (suc n) s d = cond (eqb n 8) (some (record { front = keyword (closeWord s); types = [] })) (dataLayout (roleIn (d .shape) (suc n)) (nth (d .lines) n))
+
+abbrev pub lineBy : ℕ → ℕ → Option Section → Option Layout
+lineBy n s none = none
+lineBy n s (some d) = lineIn n s d
+
+-- the layout of a kind
+unfoldable pub layoutOf : Rules → ℕ → Option Layout
+layoutOf v k = lineBy (lineOf v k) (sectionOf v k) (sectionAt v (sectionOf v k))
+
+abbrev pub typesBy : Option Layout → List FieldType
+typesBy none = []
+typesBy (some l) = l .types
+
+-- the types of its fields; a kind that no section has has none
+unfoldable pub typesOf : Rules → ℕ → List FieldType
+typesOf v k = typesBy (layoutOf v k)

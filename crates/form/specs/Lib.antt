@@ -1,0 +1,11 @@
+pub mod Values
+pub mod Names
+pub mod Compare
+pub mod Sections
+pub mod Kinds
+pub mod Layouts
+pub mod Fits
+pub mod Reading
+pub mod Padded
+pub mod Letters
+pub mod Told

@@ -1,0 +1,81 @@
+// The format as tables: sections, keywords, words, field types, the layout of each kind of line. Lookups take the rules of a version.
+pub mod fields;
+pub mod layouts;
+pub mod names;
+
+// The version of the format whose rules hold.
+pub enum Rules {
+    Idf3,
+}
+
+// What a file is, by its title line.
+pub enum FileType {
+    Board,
+    Panel,
+    Library,
+}
+
+// What a line is read under: the rules, and the type of the file.
+pub struct Context {
+    pub rules: Rules,
+    pub file: FileType,
+}
+
+// The lists that a word is looked up in.
+pub enum Words {
+    FileTypes,
+    Units,
+    Owners,
+    Faces,
+    Sides,
+    Layers,
+    Plates,
+    Statuses,
+}
+
+// The limit on a number's count: a length, one from zero on, one above zero, an included angle, a rotation, the version.
+pub enum Limit {
+    Length,
+    NotBelow,
+    Above,
+    Included,
+    Rotation,
+    Version,
+}
+
+// What a field may hold.
+pub enum FieldType {
+    Text,
+    Reference,
+    Date,
+    Integer,
+    Number(Limit),
+    Word(Words),
+}
+
+// What a keyword does: it opens or closes the section of a number, or is none.
+pub enum Keyword {
+    Opening(u64),
+    Closing(u64),
+    Unknown,
+}
+
+// The place of a word in its list, from 0.
+pub enum Found {
+    At(u64),
+    Nowhere,
+}
+
+// What a field reads as: a number, a word's place, bytes as they stand, or the number of a refusal.
+pub enum FieldReply {
+    Number(i64),
+    Word(u64),
+    Bytes,
+    Refused(u64),
+}
+
+// Some rows of a table, one after the other.
+pub struct Span {
+    pub first: usize,
+    pub count: usize,
+}

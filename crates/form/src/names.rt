@@ -1,0 +1,212 @@
+// Keywords and words, each a table of fixed byte strings, padded with spaces.
+use crate::Found;
+use crate::Keyword;
+use crate::Rules;
+use crate::Span;
+use crate::Words;
+ghost use mathlib.Core.Path.{_≡_};
+ghost use mathlib.Core.Bool.{true, false};
+ghost use mathlib.Core.List.{[]};
+ghost use Prim.Native.Nat.{_+_, _≤_, _<_};
+ghost use lib.ListN.{length, getD, take, drop};
+ghost use Rattle.form.specs.Compare.{capital, folded, placeOf};
+ghost use Rattle.form.specs.Names.{wordsOf};
+ghost use Rattle.form.specs.Reading.{keywordOf};
+ghost use Rattle.form.specs.Padded.{keyed, matched, rowTable, sought, found, spanOf, endsName, closingOf};
+
+// The names of the sections, then the words, list after list, each in the order of its places.
+const ROWS: [[u8; 16]; 39] = [
+    *b"HEADER          ", // sections, section 1 first
+    *b"BOARD_OUTLINE   ",
+    *b"PANEL_OUTLINE   ",
+    *b"OTHER_OUTLINE   ",
+    *b"ROUTE_OUTLINE   ",
+    *b"PLACE_OUTLINE   ",
+    *b"ROUTE_KEEPOUT   ",
+    *b"VIA_KEEPOUT     ",
+    *b"PLACE_KEEPOUT   ",
+    *b"PLACE_REGION    ",
+    *b"DRILLED_HOLES   ",
+    *b"NOTES           ",
+    *b"PLACEMENT       ",
+    *b"ELECTRICAL      ",
+    *b"MECHANICAL      ",
+    *b"BOARD_FILE      ", // file types
+    *b"PANEL_FILE      ",
+    *b"LIBRARY_FILE    ",
+    *b"MM              ", // units
+    *b"THOU            ",
+    *b"MCAD            ", // owners
+    *b"ECAD            ",
+    *b"UNOWNED         ",
+    *b"TOP             ", // faces
+    *b"BOTTOM          ",
+    *b"TOP             ", // sides
+    *b"BOTTOM          ",
+    *b"BOTH            ",
+    *b"TOP             ", // layers
+    *b"BOTTOM          ",
+    *b"BOTH            ",
+    *b"INNER           ",
+    *b"ALL             ",
+    *b"PTH             ", // plates
+    *b"NPTH            ",
+    *b"PLACED          ", // statuses
+    *b"UNPLACED        ",
+    *b"MCAD            ",
+    *b"ECAD            ",
+];
+
+// A row of the table.
+fn row_at(i: usize) -> [u8; 16]
+    requires { ⌜ i < 39 ⌝ }
+    ensures { λ r. ⌜ r ≡ getD rowTable i [] ⌝ }
+{
+    ROWS[i]
+}
+
+// A letter in capitals.
+fn capital_of(b: u8) -> u8
+    ensures { λ r. ⌜ r ≡ capital b ⌝ }
+{
+    if (97 <= b) & (b <= 122) { b - 32 } else { b }
+}
+
+// A byte as it is compared: in capitals, or as it stands.
+fn letter(b: u8, fold: bool) -> u8
+    ensures { λ r. ⌜ r ≡ keyed fold b ⌝ }
+{
+    if fold { capital_of(b) } else { b }
+}
+
+// Whether bytes, letters folded or not, are those of a padded row.
+fn matches(row: [u8; 16], s: &[u8], fold: bool) -> bool
+    ensures { λ r. ⌜ r ≡ matched fold row (now (s .entry)) ⌝ }
+{
+    if 16 < s.len() {
+        return false;
+    }
+    let mut i = 0;
+    while i < s.len() {
+        let b = letter(s[i], fold);
+        if (row[i] == 32) | (row[i] != b) {
+            return false;
+        }
+        i += 1;
+    }
+    if i == 16 {
+        return true;
+    }
+    row[i] == 32
+}
+
+// The place from 0 of the bytes among some rows of the table.
+fn seek(first: usize, count: usize, s: &[u8], fold: bool) -> Found
+    requires { ⌜ first + count ≤ 39 ⌝ }
+    ensures { λ r. ⌜ r ≡ sought fold 0 (take count (drop first rowTable)) (now (s .entry)) ⌝ }
+{
+    let mut i = 0;
+    while i < count {
+        if matches(row_at(first + i), s, fold) {
+            return Found::At(i as u64);
+        }
+        i += 1;
+    }
+    Found::Nowhere
+}
+
+// Where a list of words stands in the table.
+fn rows_of(v: Rules, l: Words) -> Span
+    ensures { λ r. ⌜ r ≡ spanOf v l ⌝ }
+{
+    match v {
+        Rules::Idf3 => match l {
+            Words::FileTypes => Span {
+                first: 15,
+                count: 3,
+            },
+            Words::Units => Span {
+                first: 18,
+                count: 2,
+            },
+            Words::Owners => Span {
+                first: 20,
+                count: 3,
+            },
+            Words::Faces => Span {
+                first: 23,
+                count: 2,
+            },
+            Words::Sides => Span {
+                first: 25,
+                count: 3,
+            },
+            Words::Layers => Span {
+                first: 28,
+                count: 5,
+            },
+            Words::Plates => Span {
+                first: 33,
+                count: 2,
+            },
+            Words::Statuses => Span {
+                first: 35,
+                count: 4,
+            },
+        },
+    }
+}
+
+// The place of a bare word in its list.
+pub fn place_of(v: Rules, l: Words, s: &[u8]) -> Found
+    ensures { λ r. ⌜ r ≡ found (placeOf (wordsOf v l) (now (s .entry))) ⌝ }
+{
+    let rows = rows_of(v, l);
+    let first = rows.first;
+    let count = rows.count;
+    seek(first, count, s, false)
+}
+
+// The section that bytes name, in any letter case.
+fn section_named(s: &[u8]) -> Found
+    ensures { λ r. ⌜ r ≡ sought true 0 (take 15 (drop 0 rowTable)) (now (s .entry)) ⌝ }
+{
+    seek(0, 15, s, true)
+}
+
+// Whether bytes begin with END_, in any letter case.
+fn ends_name(s: &[u8]) -> bool
+    ensures { λ r. ⌜ r ≡ endsName (now (s .entry)) ⌝ }
+{
+    if s.len() < 4 {
+        return false;
+    }
+    ((capital_of(s[0]) == 69) & (capital_of(s[1]) == 78))
+        & ((capital_of(s[2]) == 68) & (capital_of(s[3]) == 95))
+}
+
+// What a keyword does, its period left off, where it does not open a section.
+fn closing(s: &[u8]) -> Keyword
+    ensures { λ r. ⌜ r ≡ closingOf (now (s .entry)) ⌝ }
+{
+    if !ends_name(s) {
+        return Keyword::Unknown;
+    }
+    match section_named(&s[4..]) {
+        Found::At(n) => Keyword::Closing(n + 1),
+        Found::Nowhere => Keyword::Unknown,
+    }
+}
+
+// What a keyword does.
+pub fn read_keyword(s: &[u8]) -> Keyword
+    ensures { λ r. ⌜ r ≡ keywordOf (folded (now (s .entry))) ⌝ }
+{
+    if !text::begins_with(s, 46) {
+        return Keyword::Unknown;
+    }
+    match section_named(&s[1..]) {
+        Found::At(n) => Keyword::Opening(n + 1),
+        Found::Nowhere => closing(&s[1..]),
+    }
+}
