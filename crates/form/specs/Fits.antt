@@ -28,7 +28,7 @@ use Rattle.form.specs.declared.FieldType.the-variants.{Text as T, Refere
 abbrev pub under : Rules → FileType → Context
 under v t = record { rules = v; file = t }
 
--- ---- numbers
+-- numbers
 
 abbrev pub above : ℤ → Bool
 above (pos n) = ltb 0 n
@@ -64,7 +64,7 @@ beyond A = 10
 beyond R = 10
 beyond Ver = 9
 
--- ---- texts
+-- texts
 
 -- what the bytes of a text mean at its field: themselves
 unfoldable pub meaning : FieldType → List ℕ → List ℕ
@@ -95,7 +95,7 @@ isEmpty (b ∷ s) = false
 abbrev pub goodWord : Rules → Words → ℕ → Bool
 goodWord v l n = not (isEmpty (wordAt (wordsOf v l) n))
 
--- ---- values and records
+-- values and records
 
 unfoldable pub fits : Context → FieldType → Value → Bool
 fits c T (text s) = goodText T s

@@ -27,7 +27,7 @@ use Rattle.form.specs.declared.FieldType.the-variants.{Text as T, Refere
 use Rattle.form.specs.declared.Keyword.{Keyword}
 use Rattle.form.specs.declared.Keyword.the-variants.{Opening, Closing, Unknown}
 
--- ---- one field: 7 not a number or an integer, 8 too fine, 9 a wrong word, version, date or BOARD, 10 a limit
+-- one field: 7 not a number or an integer, 8 too fine, 9 a wrong word, version, date or BOARD, 10 a limit
 
 abbrev pub ofCount : Context → Limit → NumberAnswer → Reply Value
 ofCount c l (Count z) = cond (within c l z) (good (number z)) (refused (beyond l))
@@ -54,7 +54,7 @@ readField c (N l) (field false s) = ofCount c l (readNumber (kept c l) largestLe
 readField c (W l) (field true s) = refused 9
 readField c (W l) (field false s) = ofPlace (placeOf (wordsOf (c .rules) l) s)
 
--- ---- the fields of a record: 6 for their number, then each from the left
+-- the fields of a record: 6 for their number, then each from the left
 
 abbrev pub andThen : Reply Value → Reply (List Value) → Reply (List Value)
 andThen (refused n) r = refused n
@@ -70,7 +70,7 @@ readEach c (t ∷ ts) (f ∷ fs) = andThen (readField c t f) (readEach c ts fs)
 unfoldable pub readFields : Context → List FieldType → List Field → Reply (List Value)
 readFields c ts fs = cond (eqb (length fs) (length ts)) (readEach c ts fs) (refused 6)
 
--- ---- a line by what it is: a comment or blank; refused with 3 or 4; a keyword in capitals and the fields after it; a data line's fields
+-- a line by what it is: a comment or blank; refused with 3 or 4; a keyword in capitals and the fields after it; a data line's fields
 
 pub data Line : Type 0 where
   free : Line
@@ -114,7 +114,7 @@ fieldsBy c ts (refused n) = refused n
 unfoldable pub readLine : Context → Front → List FieldType → List ℕ → Reply (List Value)
 readLine c f ts s = fieldsBy c ts (after f (lineAs s))
 
--- ---- keywords
+-- keywords
 
 -- the number from n on of the first name of a list that stands, with a prefix before it, for the keyword w
 unfoldable pub keyFrom : List ℕ → ℕ → List (List ℕ) → List ℕ → Option ℕ

@@ -1,0 +1,11 @@
+pub mod Logic
+pub mod WordSpelling
+pub mod BareBytes
+pub mod Tables
+pub mod KeywordLaws
+pub mod ValueSpelling
+pub mod LineSpelling
+pub mod RecordSpelling
+pub mod CanonicalFields
+pub mod CanonicalLines
+pub mod Cases

@@ -1,0 +1,3 @@
+pub mod WordRules
+pub mod RecordRules
+pub mod Canonical
