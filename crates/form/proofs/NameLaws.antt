@@ -12,9 +12,9 @@ use borrow.Author.Tests.{not-true, not-false, eqb-true, eq-eqb, ne-eqb, leb-true
 use lib.Dec.{eqb, leb}
 use lib.ListN.{length, take, drop, getD}
 use lib.Seq.{drop-cons}
-use Rattle.text.specs.Bytes.{begins}
+use Rattle.text.specs.Bytes.{ascii, begins}
 use Rattle.text.proofs.Lists.{rest, and-left}
-use Rattle.form.specs.Names.{wordsOf, sectionNames, endWord}
+use Rattle.form.specs.Names.{wordsOf, propWord, sectionNames, endWord}
 use Rattle.form.specs.Compare.{sameBytes, wordKey, sameWord, up, placeOf, isSmall, capital, folded}
 use Rattle.form.specs.Reading.{keyFrom, keyBy, keywordOf}
 use Rattle.form.specs.Padded.{trimmed, matched, found, rowTable, sought, spanOf, endsName, closingBy, closingOf}
@@ -319,3 +319,7 @@ module _ (v : Rules) (l : Words) (r : Span) (e : r ≡ spanOf v l) where
 
   pub place-found : (s : List ℕ) (f : Found) → f ≡ sought false 0 (take (r .count) (drop (r .first) rowTable)) s → f ≡ found (placeOf (wordsOf v l) s)
   place-found s f m = (rw e at m) ∙ place-is v l s
+
+pub prop-is : (s : List ℕ) (r : Bool) → r ≡ matched false (ascii "PROP            ") s → r ≡ sameWord propWord s
+unfolding sameWord wordKey trimmed
+prop-is s r e = e ∙ matched-is false (ascii "PROP            ") s ∙ rw (key-stays s)

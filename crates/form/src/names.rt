@@ -9,8 +9,8 @@ ghost use mathlib.Core.Bool.{true, false};
 ghost use mathlib.Core.List.{[]};
 ghost use Prim.Native.Nat.{_+_, _≤_, _<_};
 ghost use lib.ListN.{length, getD, take, drop};
-ghost use Rattle.form.specs.Compare.{capital, folded, placeOf};
-ghost use Rattle.form.specs.Names.{wordsOf};
+ghost use Rattle.form.specs.Compare.{capital, folded, placeOf, sameWord};
+ghost use Rattle.form.specs.Names.{propWord, wordsOf};
 ghost use Rattle.form.specs.Reading.{keywordOf};
 ghost use Rattle.form.specs.Padded.{keyed, matched, rowTable, sought, found, spanOf, endsName, closingOf};
 
@@ -165,6 +165,13 @@ pub fn place_of(v: Rules, l: Words, s: &[u8]) -> Found
     let first = rows.first;
     let count = rows.count;
     seek(first, count, s, false)
+}
+
+// Whether a bare field is the word before a property's name.
+pub fn is_prop(s: &[u8]) -> bool
+    ensures { λ r. ⌜ r ≡ sameWord propWord (now (s .entry)) ⌝ }
+{
+    matches(*b"PROP            ", s, false)
 }
 
 // The section that bytes name, in any letter case.
