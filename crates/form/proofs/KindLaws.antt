@@ -16,7 +16,7 @@ use Rattle.form.specs.Compare.{sameBytes, wordAt}
 use Rattle.form.specs.Sections.{sections}
 use Rattle.form.specs.Kinds.{sectionOf, lineOf}
 use Rattle.form.specs.Layouts.{layoutOf, typesOf}
-use Rattle.form.specs.Letters.{letterAt, rowOf, rowFor, widths, isKind, layoutTable, lineTable, letterOf, letters, widthOf, typeAt, typeNamed}
+use Rattle.form.specs.Letters.{letterAt, rowOf, rowFor, widths, isKind, layoutTable, lineTable, letterOf, letters, typeAt, typeNamed}
 use Rattle.form.specs.declared.Words.the-variants.{FileTypes, Units, Owners, Faces, Sides, Layers, Plates, Statuses}
 use Rattle.form.specs.declared.Limit.the-variants.{Length as L, NotBelow as L0, Above as Lp, Included as A, Rotation as R, Version as Ver}
 use Rattle.form.specs.declared.FieldType.{FieldType}
@@ -148,25 +148,32 @@ module _ (v : Rules) (k : ℕ) (row : List ℕ) (e : row ≡ rowOf v k) where
       at (suc n) (t ∷ ts) zero h l = refl
       at (suc n) (t ∷ ts) (suc i) h l = at n ts i (omega arith) (omega arith)
 
--- no layout has more than seven fields
+-- no layout has more than seven fields, or fills more than nine columns
 short : Rules → ℕ → Bool
-short v k = leb (length (typesOf v k)) 7
+short v k = leb (length (typesOf v k)) 7 && leb (widths (typesOf v k)) 9
 
 short-table : (v : Rules) → allBelow 160 (short v) ≡ true
-unfolding short typesOf layoutOf sectionOf lineOf sections sectionNames wordAt
+unfolding short typesOf layoutOf sectionOf lineOf sections sectionNames wordAt widths
 short-table Idf3 = refl
 
-short-none : (v : Rules) (k : ℕ) → 159 < k → length (typesOf v k) ≤ 7
-unfolding typesOf layoutOf sectionOf
-short-none Idf3 k h = rw (lt-leb k 159 h) (omega arith)
+short-none : (v : Rules) (k : ℕ) → 159 < k → short v k ≡ true
+unfolding short typesOf layoutOf sectionOf widths
+short-none Idf3 k h = rw (lt-leb k 159 h)
+
+all-short : (v : Rules) (k : ℕ) → short v k ≡ true
+all-short v k = go (leb k 159) refl
+  where
+    go : (t : Bool) → leb k 159 ≡ t → short v k ≡ true
+    go true e = below-all 160 (short v) (short-table v) k (omega (arith, leb-true k 159 e))
+    go false e = short-none v k (omega (arith, leb-false k 159 e))
 
 pub seven : (v : Rules) (k : ℕ) → length (typesOf v k) ≤ 7
 unfolding short
-seven v k = go (leb k 159) refl
-  where
-    go : (t : Bool) → leb k 159 ≡ t → length (typesOf v k) ≤ 7
-    go true e = leb-true (length (typesOf v k)) 7 (below-all 160 (short v) (short-table v) k (omega (arith, leb-true k 159 e)))
-    go false e = short-none v k (omega (arith, leb-false k 159 e))
+seven v k = leb-true (length (typesOf v k)) 7 (and-left (leb (length (typesOf v k)) 7) _ (all-short v k))
+
+pub nine : (v : Rules) (k : ℕ) → widths (typesOf v k) ≤ 9
+unfolding short
+nine v k = leb-true (widths (typesOf v k)) 9 (and-right (leb (length (typesOf v k)) 7) _ (all-short v k))
 
 -- a type by its letter
 pub named : (t : FieldType) → typeNamed (letterOf t) ≡ t
@@ -198,22 +205,9 @@ unfolding typeNamed
 named-other b n0 n1 n2 n3 n4 n5 n6 n7 n8 n9 n10 n11 n12 n13 n14 n15 n16 = rw (ne-eqb b 82 n0, ne-eqb b 68 n1, ne-eqb b 73 n2, ne-eqb b 76 n3, ne-eqb b 78 n4, ne-eqb b 80 n5, ne-eqb b 65 n6, ne-eqb b 114 n7, ne-eqb b 86 n8, ne-eqb b 102 n9, ne-eqb b 117 n10, ne-eqb b 111 n11, ne-eqb b 116 n12, ne-eqb b 115 n13, ne-eqb b 108 n14, ne-eqb b 112 n15, ne-eqb b 120 n16)
 
 -- so few fields and columns fit
-widths-few : (ts : List FieldType) → widths ts ≤ 2 * length ts
-unfolding widths
-widths-few [] = omega arith
-widths-few (t ∷ ts) = let h = widths-few ts in let w = two t in omega arith
-  where
-    two : (t : FieldType) → widthOf t ≤ 2
-    two T = omega arith
-    two Ref = omega arith
-    two D = omega arith
-    two I = omega arith
-    two (N l) = omega arith
-    two (W l) = omega arith
-
 module _ (v : Rules) (k : ℕ) (row : List ℕ) (e : row ≡ rowOf v k) where
   pub count-fits : Fits w64 (getD row 0 0 - 48)
   count-fits = omega (arith, count-is v k row e, seven v k)
 
   pub width-fits : Fits w64 (getD row 1 0 - 48)
-  width-fits = omega (arith, width-is v k row e, seven v k, widths-few (typesOf v k))
+  width-fits = omega (arith, width-is v k row e, nine v k)

@@ -1,1 +1,3 @@
 pub mod LookLaws
+pub mod EntryLaws
+pub mod FillLaws
