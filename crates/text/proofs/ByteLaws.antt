@@ -22,9 +22,9 @@ pub low-class : (b : ℕ) → 32 ≤ b → b ≤ 126 → b ≢ 32 → b ≢ 34 �
 unfolding classOf permitted
 low-class b l h n m = simp (ne-eqb b 32 n, ne-eqb b 34 m, le-leb 32 b l, le-leb b 126 h)
 
-pub high-class : (b : ℕ) → 128 ≤ b → Permitted ≡ classOf b
+pub high-class : (b : ℕ) → 128 ≤ b → b ≤ 255 → Permitted ≡ classOf b
 unfolding classOf permitted
-high-class b h = simp (ne-eqb b 32 (omega arith), ne-eqb b 34 (omega arith), le-leb 32 b (omega arith), lt-leb b 126 (omega arith), le-leb 128 b h)
+high-class b h l = simp (ne-eqb b 32 (omega arith), ne-eqb b 34 (omega arith), le-leb 32 b (omega arith), lt-leb b 126 (omega arith), le-leb 128 b h, le-leb b 255 l)
 
 pub control-class : (b : ℕ) → b < 32 → Forbidden ≡ classOf b
 unfolding classOf permitted

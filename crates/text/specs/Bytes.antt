@@ -10,9 +10,9 @@ use lib.Dec.{leb, eqb}
 use Rattle.text.specs.declared.ByteClass.{ByteClass}
 use Rattle.text.specs.declared.ByteClass.the-variants.{Space, Quote, Permitted, Forbidden}
 
--- 32 to 126 and 128 to 255, which is the largest byte
+-- 32 to 126 and 128 to 255
 unfoldable pub permitted : ℕ → Bool
-permitted b = cond (leb 32 b) (cond (leb b 126) true (leb 128 b)) false
+permitted b = cond (leb 32 b) (cond (leb b 126) true (cond (leb 128 b) (leb b 255) false)) false
 
 -- space and quote are permitted too; the four classes are disjoint
 unfoldable pub classOf : ℕ → ByteClass

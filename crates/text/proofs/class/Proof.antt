@@ -24,7 +24,7 @@ returns-6 : tie.Need-returns-6
 returns-6 c = low-class _ (omega arith) (omega arith) (omega arith) (omega arith)
 
 returns-7 : tie.Need-returns-7
-returns-7 c = high-class _ (omega arith)
+returns-7 c = high-class _ (omega arith) (omega arith)
 
 pub class-spec : {M : Type 1} → statement M
 class-spec =

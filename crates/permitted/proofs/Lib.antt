@@ -1,0 +1,15 @@
+pub mod Basics
+pub mod Roles
+pub mod Fields
+pub mod Tables
+pub mod Samples
+pub mod Names
+pub mod SoundPoints
+pub mod SoundSections
+pub mod Sound
+pub mod CompletePoints
+pub mod Complete
+pub mod Sane
+pub mod Viable
+pub mod FirstLine
+pub mod ByPlace
