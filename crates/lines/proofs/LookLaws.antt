@@ -62,12 +62,12 @@ module _ (s : List ℕ) (x : FieldAnswer) (e : x ≡ fieldOf s) (n : ℕ) where
     first-start = let b = got-lies s a l q m (sym e ∙ h) in omega arith
 
 -- The whole line
-none-some : {fs : List Field} → none ≡ some fs → ⊥
+pub none-some : {fs : List Field} → none ≡ some fs → ⊥
 none-some {fs} e = let z : _≡_ {A = ℕ} 0 1 = cc in omega arith
 
-some-before : (f : Field) (o : Option (List Field)) (fs : List Field) → before f o ≡ some fs → (gs : List Field) × (fs ≡ f ∷ gs)
+pub some-before : (f : Field) (o : Option (List Field)) (fs : List Field) → before f o ≡ some fs → (gs : List Field) × (o ≡ some gs) × (fs ≡ f ∷ gs)
 some-before f none fs h = absurd (none-some h)
-some-before f (some gs) fs h = (gs, cc)
+some-before f (some gs) fs h = (gs, refl, cc)
 
 first-is : (s : List ℕ) (fs : List Field) → fieldsOf s ≡ some fs → firstBy (fieldOf s) s (length fs) ≡ kindBy (byFirst fs) (behind (fieldOf s))
 unfolding fieldsOf fieldsIn bareKind
@@ -85,7 +85,7 @@ first-is s fs e = go (fieldOf s) e
     go Nothing h = let z : fs ≡ [] = cc in rw z
     go (Got a l q m) h =
         let g = some-before (field q (take l (drop a s))) (fieldsIn (length s) (drop m s)) fs h in
-        rw (g .1) (quoted q (take l (drop a s)) (g .0) m)
+        rw (g .2) (quoted q (take l (drop a s)) (g .0) m)
     go Broken h = absurd (none-some h)
 
 module _ (s : List ℕ) (t : Bool) (e : t ≡ begins 35 s) where

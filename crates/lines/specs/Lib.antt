@@ -1,2 +1,3 @@
 pub mod LineKinds
 pub mod Rows
+pub mod Meaning

@@ -1,2 +1,5 @@
+pub mod LoopLaws
+pub mod StateLaws
+pub mod PlaceLaws
 pub mod Steps
 pub mod Examples

@@ -10,7 +10,7 @@ use Rattle.form.specs.declared.Rules.{Rules}
 use Rattle.form.specs.declared.FileType.{FileType}
 use Rattle.records.specs.Marks.{pointOf, typeIn}
 use Rattle.records.specs.Loops.{complete}
-use Rattle.records.specs.Automaton.{isRole, fileOf, if-fit, onlyIf, atPhase, advance, typeAt, standsIn, mayStand, movedIn, moved}
+use Rattle.records.specs.Automaton.{isRole, fileOf, if-fit, onlyIf, atPhase, advance, typeAt, standsIn, mayStand, movedIn, moved, stepped}
 use Rattle.records.specs.declared.Point.{Point}
 use Rattle.records.specs.declared.Stage.{Stage}
 use Rattle.records.specs.declared.Phase.{Phase}
@@ -68,6 +68,11 @@ advance-is v (inside g s p) r = go (eqb (sectionOf v (r .kind)) s)
         ≡ cond (b && standsIn p role) (cond fit (movedIn g s p role (typeIn r) (pointOf r)) (refused unfit)) (refused misplaced)
     go true = phase-is g s p role fit r
     go false = refl
+
+-- the code's step is the automaton's, for a record that is well formed
+pub advance-stepped : (v : Rules) (st : State) (r : Rec) → wellFormed (under v (typeAt st)) r ≡ true → advance v st r ≡ stepped v st (r .kind) (typeIn r) (pointOf r)
+unfolding stepped
+advance-stepped v st r h = advance-is v st r ∙ rw h
 
 -- the point counts only at a point line
 pub point-only : (v : Rules) (st : State) (k : ℕ) (t : FileType) (d e : Point) → isRole (roleOf v k) point ≡ false

@@ -7,7 +7,7 @@ use lib.Dec.{eqb}
 use Rattle.form.specs.Values.{Rec}
 use Rattle.form.specs.Compare.{sameBytes}
 use Rattle.form.specs.Sections.{Shape, header, outline, component, keepout, listing, placements}
-use Rattle.form.specs.Kinds.{sectionOf, Role, opening, closing, title, name, lead, point, prop, entry, part, position, unknown, roleOf}
+use Rattle.form.specs.Kinds.{kindAt, sectionOf, Role, opening, closing, title, name, lead, point, prop, entry, part, position, unknown, roleOf}
 use Rattle.form.specs.Fits.{under, wellFormed}
 use Rattle.form.specs.declared.Rules.{Rules}
 use Rattle.form.specs.declared.FileType.{FileType}
@@ -153,17 +153,20 @@ abbrev pub typeAt : State → FileType
 typeAt (between g) = fileOf g
 typeAt (inside g s p) = fileOf g
 
--- may a line with this role stand in this phase of its section
+-- may a line stand in this phase of its section, by the number of its role
+abbrev pub standsBy : Phase → ℕ → Bool
+standsBy awaitTitle n = eqb n (roleNumber title)
+standsBy (awaitName t) n = eqb n (roleNumber name)
+standsBy (headerFull t) n = eqb n (roleNumber closing)
+standsBy awaitLead n = eqb n (roleNumber lead)
+standsBy (inPoints l) n = eqb n (roleNumber point) || eqb n (roleNumber prop) || eqb n (roleNumber closing)
+standsBy inProps n = eqb n (roleNumber prop) || eqb n (roleNumber closing)
+standsBy inList n = eqb n (roleNumber entry) || eqb n (roleNumber closing)
+standsBy awaitPart n = eqb n (roleNumber part) || eqb n (roleNumber closing)
+standsBy awaitPosition n = eqb n (roleNumber position)
+
 abbrev pub standsIn : Phase → Role → Bool
-standsIn awaitTitle role = isRole role title
-standsIn (awaitName t) role = isRole role name
-standsIn (headerFull t) role = isRole role closing
-standsIn awaitLead role = isRole role lead
-standsIn (inPoints l) role = isRole role point || isRole role prop || isRole role closing
-standsIn inProps role = isRole role prop || isRole role closing
-standsIn inList role = isRole role entry || isRole role closing
-standsIn awaitPart role = isRole role part || isRole role closing
-standsIn awaitPosition role = isRole role position
+standsIn p role = standsBy p (roleNumber role)
 
 -- may a line of kind k stand in this state
 unfoldable pub mayStand : Rules → State → ℕ → Bool
@@ -174,31 +177,42 @@ mayStand v (inside g s p) k = eqb (sectionOf v k) s && standsIn p (roleOf v k)
 abbrev pub onOrOut : Stage → ℕ → Bool → Phase → Outcome
 onOrOut g s stays p = next (cond stays (inside g s p) (between (after g s)))
 
--- what a line that may stand in a phase does there, by its role, the type in it and the point in it
+-- what a point, PROP or closing line does among points
+abbrev pub amongPoints : Stage → ℕ → LoopState → ℕ → Point → Outcome
+amongPoints g s l n d = cond (eqb n (roleNumber point)) (afterPoint g s (loopAfter (manyLoops s) l d)) (onlyIf (complete l) (onOrOut g s (eqb n (roleNumber prop)) inProps))
+
+-- what a line that may stand in a phase does there, by the number of its role, the type in it and the point in it
+abbrev pub movedBy : Stage → ℕ → Phase → ℕ → FileType → Point → Outcome
+movedBy g s awaitTitle n t d = next (inside g s (afterTitle t))
+movedBy g s (awaitName u) n t d = next (inside g s (headerFull u))
+movedBy g s (headerFull u) n t d = next (between (headed u))
+movedBy g s awaitLead n t d = next (inside g s (inPoints noPoint))
+movedBy g s (inPoints l) n t d = amongPoints g s l n d
+movedBy g s inProps n t d = onOrOut g s (eqb n (roleNumber prop)) inProps
+movedBy g s inList n t d = onOrOut g s (eqb n (roleNumber entry)) inList
+movedBy g s awaitPart n t d = onOrOut g s (eqb n (roleNumber part)) awaitPosition
+movedBy g s awaitPosition n t d = next (inside g s awaitPart)
+
 abbrev pub movedIn : Stage → ℕ → Phase → Role → FileType → Point → Outcome
-movedIn g s awaitTitle role t d = next (inside g s (afterTitle t))
-movedIn g s (awaitName u) role t d = next (inside g s (headerFull u))
-movedIn g s (headerFull u) role t d = next (between (headed u))
-movedIn g s awaitLead role t d = next (inside g s (inPoints noPoint))
-movedIn g s (inPoints l) role t d = cond (isRole role point) (afterPoint g s (loopAfter (manyLoops s) l d)) (onlyIf (complete l) (onOrOut g s (isRole role prop) inProps))
-movedIn g s inProps role t d = onOrOut g s (isRole role prop) inProps
-movedIn g s inList role t d = onOrOut g s (isRole role entry) inList
-movedIn g s awaitPart role t d = onOrOut g s (isRole role part) awaitPosition
-movedIn g s awaitPosition role t d = next (inside g s awaitPart)
+movedIn g s p role t d = movedBy g s p (roleNumber role) t d
 
 -- what a well-formed record of kind k that may stand does: the next state, or a broken loop rule
 unfoldable pub moved : Rules → State → ℕ → FileType → Point → Outcome
 moved v (between g) k t d = next (inside g (sectionOf v k) (startOf (shapeOf v (sectionOf v k))))
 moved v (inside g s p) k t d = movedIn g s p (roleOf v k) t d
 
--- the line of a section that holds its points
+-- a line of kind k with values that fit: the next state, or a refusal
+unfoldable pub stepped : Rules → State → ℕ → FileType → Point → Outcome
+stepped v st k t d = cond (mayStand v st k) (moved v st k t d) (refused misplaced)
+
+-- the line of a section that holds its points: behind a leading line if there is one
 abbrev pub pointLine : Shape → ℕ
-pointLine header = 0
+pointLine header = 2
 pointLine outline = 2
 pointLine component = 2
 pointLine keepout = 1
-pointLine listing = 0
-pointLine placements = 0
+pointLine listing = 2
+pointLine placements = 2
 
 -- PROP lines stand in ELECTRICAL only
 abbrev pub hasProps : Shape → Bool
@@ -220,6 +234,21 @@ lineAt f inProps saysProp = cond (saysProp && hasProps f) (some 3) none
 lineAt f inList saysProp = some 1
 lineAt f awaitPart saysProp = some 1
 lineAt f awaitPosition saysProp = some 2
+
+-- the section that is open, or 0
+abbrev pub sectionIn : State → ℕ
+sectionIn (between g) = 0
+sectionIn (inside g s p) = s
+
+-- line n of section s, or none
+abbrev pub kindBy : Rules → ℕ → Option ℕ → ℕ
+kindBy v s none = 0
+kindBy v s (some n) = kindAt v s n
+
+-- the kind of a data line in a state; 0 where none may stand
+unfoldable pub dataKind : Rules → State → Bool → ℕ
+dataKind v (between g) saysProp = 0
+dataKind v (inside g s p) saysProp = kindBy v s (lineAt (shapeOf v s) p saysProp)
 
 -- not refused, and a test passes of the next state
 abbrev pub accepted : Outcome → (State → Bool) → Bool

@@ -1,4 +1,7 @@
 // One record at a time: where a file stands between two lines, which kind of line may come, and what it does.
+pub mod loops;
+pub mod states;
+
 use form::FileType;
 use measure::Angle;
 use measure::Length;
@@ -32,6 +35,12 @@ pub enum LoopState {
     Away(i64, Place, Place),
     Back(i64, Place),
     Round(i64),
+}
+
+// What one more point does: the loop goes on, or its rule is broken.
+pub enum LoopAnswer {
+    Onward(LoopState),
+    Broken,
 }
 
 // Where we are in a section.

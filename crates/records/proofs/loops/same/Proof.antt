@@ -1,0 +1,14 @@
+use borrow.Author.Needs.{needs}
+use Rattle.records.proofs.LoopLaws.{bits-same}
+use Rattle.records.proofs.loops.same.Statement.{statement}
+use Rattle.records.proofs.loops.same.Tie as tie
+
+ruleset laws = (bits-same, needs)
+
+returns : tie.Need-returns
+returns c = search laws
+
+pub same-spec : {M : Type 1} → statement M
+same-spec =
+    tie.close
+    (tie.spec returns)

@@ -1,0 +1,20 @@
+use borrow.Author.Needs.{needs}
+use Rattle.records.proofs.LoopLaws.{both-same}
+use Rattle.records.proofs.loops.same_place.Statement.{statement}
+use Rattle.records.proofs.loops.same_place.Tie as tie
+
+ruleset laws = (both-same, needs)
+
+same-requires : tie.Need-same-requires
+same-requires c κs = search laws
+
+same-requires-2 : tie.Need-same-requires-2
+same-requires-2 c κs = search laws
+
+returns : tie.Need-returns
+returns c = search laws
+
+pub same-place-spec : {M : Type 1} → statement M
+same-place-spec =
+    tie.close
+    (tie.spec same-requires same-requires-2 returns)

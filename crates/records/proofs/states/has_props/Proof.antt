@@ -1,0 +1,14 @@
+use borrow.Author.Needs.{needs}
+use Rattle.records.proofs.PlaceLaws.{props-is}
+use Rattle.records.proofs.states.has_props.Statement.{statement}
+use Rattle.records.proofs.states.has_props.Tie as tie
+
+ruleset laws = (props-is, needs)
+
+returns : tie.Need-returns
+returns c = search laws
+
+pub has-props-spec : {M : Type 1} → statement M
+has-props-spec =
+    tie.close
+    (tie.spec returns)

@@ -1,0 +1,15 @@
+use borrow.Author.Needs.{needs}
+use Rattle.records.specs.Marks.{manyLoops}
+use Rattle.records.proofs.states.many_loops.Statement.{statement}
+use Rattle.records.proofs.states.many_loops.Tie as tie
+
+ruleset laws = (needs)
+
+returns : tie.Need-returns
+unfolding manyLoops
+returns c = search laws
+
+pub many-loops-spec : {M : Type 1} → statement M
+many-loops-spec =
+    tie.close
+    (tie.spec returns)

@@ -1,0 +1,340 @@
+// Where a file stands between two lines: which sections may open, which lines may stand, and what a line does.
+use crate::LoopAnswer;
+use crate::LoopState;
+use crate::Outcome;
+use crate::Phase;
+use crate::Point;
+use crate::Reason;
+use crate::Stage;
+use crate::State;
+use crate::loops;
+use form::FileType;
+use form::Rules;
+ghost use mathlib.Core.Path.{_≡_};
+ghost use Prim.Native.Nat.{_≤_};
+ghost use Rattle.form.specs.Kinds.{roleOf};
+ghost use Rattle.records.specs.Marks.{isLibrary, shapeOf, manyLoops, isMiddle};
+ghost use Rattle.records.specs.Loops.{loopAfter};
+ghost use Rattle.records.specs.Automaton.{mayOpen, after, afterHeaded, mayEnd, accepting, afterTitle, startOf, roleNumber, standsBy, mayStand, afterPoint, onOrOut, amongPoints, movedBy, moved, stepped, pointLine, hasProps, lineAt, sectionIn, dataKind};
+ghost use Rattle.records.specs.Answers.{lineNumber};
+ghost use Rattle.records.specs.declared.Stage.the-variants.{Headed, Middle};
+
+// What a line is for in its section: 0 opens it, 1 title, 2 name, 3 lead, 4 point, 5 PROP, 6 entry, 7 part, 8 position, 9 closes it; : none.
+const ROLES: [[u8; 10]; 16] = [
+    *b"::::::::::",
+    *b"012::::::9", // 1 HEADER
+    *b"034::::::9", // 2 BOARD_OUTLINE
+    *b"034::::::9", // 3 PANEL_OUTLINE
+    *b"034::::::9", // 4 OTHER_OUTLINE
+    *b"034::::::9", // 5 ROUTE_OUTLINE
+    *b"034::::::9", // 6 PLACE_OUTLINE
+    *b"034::::::9", // 7 ROUTE_KEEPOUT
+    *b"04:::::::9", // 8 VIA_KEEPOUT
+    *b"034::::::9", // 9 PLACE_KEEPOUT
+    *b"034::::::9", // 10 PLACE_REGION
+    *b"06:::::::9", // 11 DRILLED_HOLES
+    *b"06:::::::9", // 12 NOTES
+    *b"078::::::9", // 13 PLACEMENT
+    *b"0345:::::9", // 14 ELECTRICAL
+    *b"034::::::9", // 15 MECHANICAL
+];
+
+// The number of what a line of a kind is for, 10 where no section has it.
+pub fn role_of(v: Rules, kind: u64) -> u64
+    ensures { λ r. ⌜ r ≡ roleNumber (roleOf v kind) ⌝ }
+{
+    if 159 < kind {
+        return 10;
+    }
+    let s = (kind / 10) as usize;
+    let n = (kind % 10) as usize;
+    let row = ROLES[s];
+    (row[n] - 48) as u64
+}
+
+// Whether a section may stand between outline and PLACEMENT.
+fn is_middle(v: Rules, s: u64) -> bool
+    ensures { λ r. ⌜ r ≡ isMiddle v s ⌝ }
+{
+    (4 <= s) & (s <= 12)
+}
+
+// Whether a section may open after the header.
+fn headed_opens(v: Rules, t: FileType, s: u64) -> bool
+    ensures { λ r. ⌜ r ≡ mayOpen v (Headed t) s ⌝ }
+{
+    match t {
+        FileType::Board => s == 2,
+        FileType::Panel => s == 3,
+        FileType::Library => (s == 14) | (s == 15),
+    }
+}
+
+// Whether a section may open after the outline; holes and notes stand at most once.
+fn middle_opens(v: Rules, t: FileType, holes: bool, notes: bool, s: u64) -> bool
+    ensures { λ r. ⌜ r ≡ mayOpen v (Middle t holes notes) s ⌝ }
+{
+    (s == 13) | (is_middle(v, s) & !(holes & (s == 11)) & !(notes & (s == 12)))
+}
+
+// Whether a section may open.
+pub fn may_open(v: Rules, g: Stage, s: u64) -> bool
+    ensures { λ r. ⌜ r ≡ mayOpen v g s ⌝ }
+{
+    match g {
+        Stage::Nothing => s == 1,
+        Stage::Headed(t) => headed_opens(v, t, s),
+        Stage::Middle(t, holes, notes) => middle_opens(v, t, holes, notes, s),
+        Stage::Finished => false,
+    }
+}
+
+// Whether a file is a library.
+fn is_library(t: FileType) -> bool
+    ensures { λ r. ⌜ r ≡ isLibrary t ⌝ }
+{
+    match t {
+        FileType::Board => false,
+        FileType::Panel => false,
+        FileType::Library => true,
+    }
+}
+
+// Whether a file may end after a stage.
+fn may_end(g: Stage) -> bool
+    ensures { λ r. ⌜ r ≡ mayEnd g ⌝ }
+{
+    match g {
+        Stage::Nothing => false,
+        Stage::Headed(t) => is_library(t),
+        Stage::Middle(..) => false,
+        Stage::Finished => true,
+    }
+}
+
+// Whether a file may end in a state.
+pub fn accepting(st: State) -> bool
+    ensures { λ r. ⌜ r ≡ accepting st ⌝ }
+{
+    match st {
+        State::Between(g) => may_end(g),
+        State::Inside(..) => false,
+    }
+}
+
+// After the outline holes and notes are still to come; a library goes on as it is.
+fn after_headed(t: FileType) -> Stage
+    ensures { λ r. ⌜ r ≡ afterHeaded t ⌝ }
+{
+    match t {
+        FileType::Board => Stage::Middle(t, false, false),
+        FileType::Panel => Stage::Middle(t, false, false),
+        FileType::Library => Stage::Headed(t),
+    }
+}
+
+// The stage after a section.
+fn after(g: Stage, s: u64) -> Stage
+    ensures { λ r. ⌜ r ≡ after g s ⌝ }
+{
+    match g {
+        Stage::Nothing => Stage::Nothing,
+        Stage::Headed(t) => after_headed(t),
+        Stage::Middle(t, holes, notes) => {
+            if s == 13 {
+                Stage::Finished
+            } else {
+                Stage::Middle(t, holes | (s == 11), notes | (s == 12))
+            }
+        }
+        Stage::Finished => Stage::Finished,
+    }
+}
+
+// Whether a section has many loops.
+fn many_loops(s: u64) -> bool
+    ensures { λ r. ⌜ r ≡ manyLoops s ⌝ }
+{
+    (2 <= s) & (s <= 4)
+}
+
+// What a section begins with after its opening line.
+fn start_of(v: Rules, s: u64) -> Phase
+    ensures { λ r. ⌜ r ≡ startOf (shapeOf v s) ⌝ }
+{
+    match s {
+        1 => Phase::AwaitTitle,
+        8 => Phase::InPoints(LoopState::NoPoint),
+        11 => Phase::InList,
+        12 => Phase::InList,
+        13 => Phase::AwaitPart,
+        _ => Phase::AwaitLead,
+    }
+}
+
+// After the title line comes, not in a library, the line with name and unit.
+fn after_title(t: FileType) -> Phase
+    ensures { λ r. ⌜ r ≡ afterTitle t ⌝ }
+{
+    match t {
+        FileType::Board => Phase::AwaitName(t),
+        FileType::Panel => Phase::AwaitName(t),
+        FileType::Library => Phase::HeaderFull(t),
+    }
+}
+
+// Whether a line may stand in a phase, by the number of its role.
+fn stands_in(p: Phase, role: u64) -> bool
+    ensures { λ r. ⌜ r ≡ standsBy p role ⌝ }
+{
+    match p {
+        Phase::AwaitTitle => role == 1,
+        Phase::AwaitName(_) => role == 2,
+        Phase::HeaderFull(_) => role == 9,
+        Phase::AwaitLead => role == 3,
+        Phase::InPoints(_) => (role == 4) | (role == 5) | (role == 9),
+        Phase::InProps => (role == 5) | (role == 9),
+        Phase::InList => (role == 6) | (role == 9),
+        Phase::AwaitPart => (role == 7) | (role == 9),
+        Phase::AwaitPosition => role == 8,
+    }
+}
+
+// Whether a line of a kind may stand in a state.
+pub fn may_stand(v: Rules, st: State, kind: u64) -> bool
+    ensures { λ r. ⌜ r ≡ mayStand v st kind ⌝ }
+{
+    let role = role_of(v, kind);
+    let section = form::layouts::section_of(v, kind);
+    match st {
+        State::Between(g) => (role == 0) & may_open(v, g, section),
+        State::Inside(_, s, p) => (section == s) & stands_in(p, role),
+    }
+}
+
+// On in the section; otherwise its closing line leads out of it.
+fn on_or_out(g: Stage, s: u64, stays: bool, p: Phase) -> Outcome
+    ensures { λ r. ⌜ r ≡ onOrOut g s stays p ⌝ }
+{
+    if stays {
+        Outcome::Next(State::Inside(g, s, p))
+    } else {
+        Outcome::Next(State::Between(after(g, s)))
+    }
+}
+
+// What a point does among points.
+fn after_point(g: Stage, s: u64, l: LoopState, d: Point) -> Outcome
+    ensures { λ r. ⌜ r ≡ afterPoint g s (loopAfter (manyLoops s) l d) ⌝ }
+{
+    match loops::loop_after(many_loops(s), l, d) {
+        LoopAnswer::Onward(m) => Outcome::Next(State::Inside(g, s, Phase::InPoints(m))),
+        LoopAnswer::Broken => Outcome::Refused(Reason::BadLoop),
+    }
+}
+
+// What a point, PROP or closing line does among points.
+fn among_points(g: Stage, s: u64, l: LoopState, role: u64, d: Point) -> Outcome
+    ensures { λ r. ⌜ r ≡ amongPoints g s l role d ⌝ }
+{
+    if role == 4 {
+        return after_point(g, s, l, d);
+    }
+    if loops::complete(l) {
+        on_or_out(g, s, role == 5, Phase::InProps)
+    } else {
+        Outcome::Refused(Reason::BadLoop)
+    }
+}
+
+// What a line does in a phase where it may stand, by the number of its role.
+fn moved_in(g: Stage, s: u64, p: Phase, role: u64, t: FileType, d: Point) -> Outcome
+    ensures { λ r. ⌜ r ≡ movedBy g s p role t d ⌝ }
+{
+    match p {
+        Phase::AwaitTitle => Outcome::Next(State::Inside(g, s, after_title(t))),
+        Phase::AwaitName(u) => Outcome::Next(State::Inside(g, s, Phase::HeaderFull(u))),
+        Phase::HeaderFull(u) => Outcome::Next(State::Between(Stage::Headed(u))),
+        Phase::AwaitLead => {
+            Outcome::Next(State::Inside(g, s, Phase::InPoints(LoopState::NoPoint)))
+        }
+        Phase::InPoints(l) => among_points(g, s, l, role, d),
+        Phase::InProps => on_or_out(g, s, role == 5, Phase::InProps),
+        Phase::InList => on_or_out(g, s, role == 6, Phase::InList),
+        Phase::AwaitPart => on_or_out(g, s, role == 7, Phase::AwaitPosition),
+        Phase::AwaitPosition => Outcome::Next(State::Inside(g, s, Phase::AwaitPart)),
+    }
+}
+
+// What a line of a kind does where it may stand.
+fn moved(v: Rules, st: State, kind: u64, t: FileType, d: Point) -> Outcome
+    ensures { λ r. ⌜ r ≡ moved v st kind t d ⌝ }
+{
+    match st {
+        State::Between(g) => {
+            let s = form::layouts::section_of(v, kind);
+            Outcome::Next(State::Inside(g, s, start_of(v, s)))
+        }
+        State::Inside(g, s, p) => moved_in(g, s, p, role_of(v, kind), t, d),
+    }
+}
+
+// What a line does whose values fit, with the type and the point in it: the next state, or a refusal.
+pub fn advance(v: Rules, st: State, kind: u64, t: FileType, d: Point) -> Outcome
+    ensures { λ r. ⌜ r ≡ stepped v st kind t d ⌝ }
+{
+    if may_stand(v, st, kind) {
+        moved(v, st, kind, t, d)
+    } else {
+        Outcome::Refused(Reason::Misplaced)
+    }
+}
+
+// The line of a section that holds its points.
+fn point_line(v: Rules, s: u64) -> u64
+    ensures { λ r. ⌜ r ≡ pointLine (shapeOf v s) ⌝ }
+{
+    if s == 8 { 1 } else { 2 }
+}
+
+// Whether a section has PROP lines.
+fn has_props(v: Rules, s: u64) -> bool
+    ensures { λ r. ⌜ r ≡ hasProps (shapeOf v s) ⌝ }
+{
+    s == 14
+}
+
+// Which line of its section a data line is in a phase, 0 where none may stand.
+fn line_at(v: Rules, s: u64, p: Phase, marked: bool) -> u64
+    ensures { λ r. ⌜ r ≡ lineNumber (lineAt (shapeOf v s) p marked) ⌝ }
+{
+    let prop = marked & has_props(v, s);
+    match p {
+        Phase::AwaitTitle => 1,
+        Phase::AwaitName(_) => 2,
+        Phase::HeaderFull(_) => 0,
+        Phase::AwaitLead => 1,
+        Phase::InPoints(_) => { if prop { 3 } else { point_line(v, s) } }
+        Phase::InProps => { if prop { 3 } else { 0 } }
+        Phase::InList => 1,
+        Phase::AwaitPart => 1,
+        Phase::AwaitPosition => 2,
+    }
+}
+
+// The kind of a data line in a state, 0 where none may stand; marked: its first field is the bare word PROP.
+pub fn data_kind(v: Rules, st: State, marked: bool) -> u64
+    requires { ⌜ sectionIn st ≤ 15 ⌝ }
+    ensures { λ r. ⌜ r ≡ dataKind v st marked ⌝ }
+{
+    match st {
+        State::Between(_) => 0,
+        State::Inside(_, s, p) => {
+            let n = line_at(v, s, p, marked);
+            if n == 0 {
+                return 0;
+            }
+            10 * s + n
+        }
+    }
+}
