@@ -2,4 +2,5 @@ pub mod LoopLaws
 pub mod StateLaws
 pub mod PlaceLaws
 pub mod Steps
+pub mod Tables
 pub mod Examples

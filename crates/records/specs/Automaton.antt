@@ -28,6 +28,13 @@ use Rattle.records.specs.declared.Reason.the-variants.{Misplaced as misp
 use Rattle.records.specs.declared.Outcome.{Outcome}
 use Rattle.records.specs.declared.Outcome.the-variants.{Next as next, Refused as refused}
 
+-- the number of a refusal; n is that of the line's fields, where those do not fit
+abbrev pub refusalNumber : Reason → ℕ → ℕ
+refusalNumber misplaced n = 5
+refusalNumber unfit n = n
+refusalNumber badLoop n = 11
+refusalNumber repeated n = 12
+
 -- no section behind us, and none open
 abbrev pub start : State
 start = between nothing

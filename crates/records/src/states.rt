@@ -15,7 +15,7 @@ ghost use Prim.Native.Nat.{_≤_};
 ghost use Rattle.form.specs.Kinds.{roleOf};
 ghost use Rattle.records.specs.Marks.{isLibrary, shapeOf, manyLoops, isMiddle};
 ghost use Rattle.records.specs.Loops.{loopAfter};
-ghost use Rattle.records.specs.Automaton.{mayOpen, after, afterHeaded, mayEnd, accepting, afterTitle, startOf, roleNumber, standsBy, mayStand, afterPoint, onOrOut, amongPoints, movedBy, moved, stepped, pointLine, hasProps, lineAt, sectionIn, dataKind};
+ghost use Rattle.records.specs.Automaton.{refusalNumber, mayOpen, after, afterHeaded, mayEnd, accepting, afterTitle, startOf, roleNumber, standsBy, mayStand, afterPoint, onOrOut, amongPoints, movedBy, moved, stepped, pointLine, hasProps, lineAt, sectionIn, dataKind};
 ghost use Rattle.records.specs.Answers.{lineNumber};
 ghost use Rattle.records.specs.declared.Stage.the-variants.{Headed, Middle};
 
@@ -336,5 +336,17 @@ pub fn data_kind(v: Rules, st: State, marked: bool) -> u64
             }
             10 * s + n
         }
+    }
+}
+
+// The number of a refusal; `fields` is that of the line's fields, where those do not fit.
+pub fn refusal_number(e: Reason, fields: u64) -> u64
+    ensures { λ r. ⌜ r ≡ refusalNumber e fields ⌝ }
+{
+    match e {
+        Reason::Misplaced => 5,
+        Reason::Unfit => fields,
+        Reason::BadLoop => 11,
+        Reason::Repeated => 12,
     }
 }
