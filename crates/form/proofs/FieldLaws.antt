@@ -3,7 +3,7 @@ use Prim.Native.Nat.{ℕ, suc, _+_, _≤_, _<_}
 use mathlib.Core.Path.{_≡_, refl, sym, ap, _∙_}
 use mathlib.Core.List.{List, [], _∷_}
 use mathlib.Core.Option.{Option, none, some}
-use mathlib.Core.Bool.{Bool, true, false, cond, not, _&&_, true≢false, false≢true}
+use mathlib.Core.Bool.{Bool, true, false, cond, not, _&&_}
 use native.Mathlib.Omega.{arith}
 use borrow.Author.Tests.{eq-eqb, ne-eqb}
 use lib.Dec.{ltb, eqb}
@@ -32,12 +32,11 @@ use Rattle.form.specs.Values.{text, good, refused}
 use Rattle.form.specs.Names.{wordsOf, boardWord}
 use Rattle.form.specs.Compare.{sameBytes, placeOf}
 use Rattle.form.specs.Fits.{above, versionOf, isVersion, kept, within, beyond, meaning, isBoard, barred}
-use Rattle.form.specs.Reading.{ofCount, ofInteger, ofPlace, readField}
+use Rattle.form.specs.Reading.{ofPlace, readField}
 use Rattle.form.specs.Padded.{found}
 use Rattle.form.specs.Told.{told, toldCount, toldInteger, toldWord, toldReference, toldDate}
 use Rattle.form.specs.declared.Rules.{Rules}
 use Rattle.form.specs.declared.Rules.the-variants.{Idf3}
-use Rattle.form.specs.declared.FileType.{FileType}
 use Rattle.form.specs.declared.Context.{Context}
 use Rattle.form.specs.declared.Words.{Words}
 use Rattle.form.specs.declared.Limit.{Limit}

@@ -6,7 +6,7 @@ use mathlib.Core.Bool.{Bool, true, false, cond}
 use lib.Dec.{leb, eqb}
 use lib.ListN.{length, getD}
 use Rattle.text.specs.Bytes.{ascii}
-use Rattle.form.specs.Layouts.{Layout, layoutOf, typesOf}
+use Rattle.form.specs.Layouts.{Layout, layoutOf}
 use Rattle.form.specs.declared.Rules.{Rules}
 use Rattle.form.specs.declared.Words.{Words}
 use Rattle.form.specs.declared.Words.the-variants.{FileTypes, Units, Owners, Faces, Sides, Layers, Plates, Statuses}

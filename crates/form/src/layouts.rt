@@ -4,12 +4,11 @@ use crate::Limit;
 use crate::Rules;
 use crate::Words;
 ghost use mathlib.Core.Path.{_≡_};
-ghost use mathlib.Core.List.{[]};
-ghost use Prim.Native.Nat.{_+_, _≤_, _<_};
-ghost use lib.ListN.{length, getD};
+ghost use Prim.Native.Nat.{_+_, _<_};
+ghost use lib.ListN.{length};
 ghost use Rattle.form.specs.Layouts.{typesOf};
 ghost use Rattle.form.specs.Kinds.{sectionOf};
-ghost use Rattle.form.specs.Letters.{layoutTable, lineTable, letterAt, rowOf, isKind, typeAt, typeNamed, widths};
+ghost use Rattle.form.specs.Letters.{letterAt, rowOf, isKind, typeAt, typeNamed, widths};
 
 // Letters of types: T text, R reference, D date, I integer; V version, L length, N length from zero on, P length above zero,
 // A included angle, r rotation; words: f file types, u units, o owners, t faces, s sides, l layers, p plates, x statuses.

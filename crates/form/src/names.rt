@@ -8,7 +8,7 @@ ghost use mathlib.Core.Path.{_≡_};
 ghost use mathlib.Core.Bool.{true, false};
 ghost use mathlib.Core.List.{[]};
 ghost use Prim.Native.Nat.{_+_, _≤_, _<_};
-ghost use lib.ListN.{length, getD, take, drop};
+ghost use lib.ListN.{getD, take, drop};
 ghost use Rattle.form.specs.Compare.{capital, folded, placeOf, sameWord};
 ghost use Rattle.form.specs.Names.{propWord, wordsOf};
 ghost use Rattle.form.specs.Reading.{keywordOf};

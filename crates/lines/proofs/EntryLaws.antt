@@ -24,8 +24,7 @@ use Rattle.form.specs.declared.Context.{Context}
 use Rattle.form.specs.declared.FieldType.{FieldType}
 use Rattle.form.specs.declared.FieldReply.{FieldReply}
 use Rattle.form.specs.declared.FieldReply.the-variants.{Number as NumberF, Word as WordF, Bytes as BytesF, Refused as RefusedF}
-use Rattle.lines.specs.Rows.{entryOf, entryBy, entryAt}
-use Rattle.lines.specs.declared.Entry.{Entry}
+use Rattle.lines.specs.Rows.{entryOf, entryAt}
 use Rattle.lines.specs.declared.Entry.the-variants.{Number, Word, Text, Refused}
 
 -- what the reply says, by its cases

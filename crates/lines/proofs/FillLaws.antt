@@ -18,7 +18,7 @@ use Rattle.text.specs.Bytes.{Field, field}
 use Rattle.text.specs.FirstField.{fieldOf}
 use Rattle.text.specs.declared.FieldAnswer.{FieldAnswer}
 use Rattle.text.specs.declared.FieldAnswer.the-variants.{Nothing, Got, Broken}
-use Rattle.text.proofs.Bounds.{Lies, Bounded, bounded}
+use Rattle.text.proofs.Bounds.{Bounded, bounded}
 use Rattle.measure.specs.Limits.{largestLength}
 use Rattle.measure.specs.Numbers.{readNumber}
 use Rattle.measure.specs.Integers.{readInteger}

@@ -21,7 +21,7 @@ use Rattle.form.specs.Names.{propWord}
 use Rattle.form.specs.Compare.{sameWord, folded}
 use Rattle.form.specs.Reading.{keyLine, dataLine, byFirst, byFields, lineAs, keywordOf}
 use Rattle.form.specs.declared.Keyword.{Keyword}
-use Rattle.lines.specs.LineKinds.{isProp, behind, kindBy, kindOf, bareKind, firstBy}
+use Rattle.lines.specs.LineKinds.{behind, kindBy, kindOf, bareKind, firstBy}
 use Rattle.lines.specs.declared.LineKind.{LineKind}
 use Rattle.lines.specs.declared.LineKind.the-variants.{Free, Bad, Key, Data}
 

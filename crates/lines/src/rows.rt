@@ -9,7 +9,6 @@ ghost use mathlib.Core.Path.{_≡_};
 ghost use Prim.Native.Nat.{_+_, _^_, _≤_, _<_};
 ghost use lib.IntN.{pos};
 ghost use lib.ListN.{length};
-ghost use Rattle.form.specs.Layouts.{typesOf};
 ghost use Rattle.lines.specs.Rows.{entryAt, putOne, putRefused, putEntry, FieldRoom, begun, filled};
 
 // The next field of a line from a place on, by its type.

@@ -1,8 +1,7 @@
 -- Document 01's proved cases on numbers and angles, computed from the definitions.
-use Prim.Native.Nat.{ℕ}
 use Prim.Native.String.{String}
 use mathlib.Core.Path.{_≡_, refl}
-use lib.IntN.{ℤ, pos, negsuc}
+use lib.IntN.{pos, negsuc}
 use Rattle.text.specs.Bytes.{ascii}
 use Rattle.measure.specs.Limits.{mostDecimals, largestLength, includedOf}
 use Rattle.measure.specs.Numbers.{digitHere, judge, decimals, whole, body, readNumber}

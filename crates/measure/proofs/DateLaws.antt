@@ -1,6 +1,6 @@
 -- A date is read exactly where it is made of its pieces; and the same by places, as the code looks.
 use Prim.Native.Nat.{ℕ, suc, _+_, _*_, _≤_}
-use mathlib.Core.Path.{_≡_, refl, sym, ap, _∙_}
+use mathlib.Core.Path.{_≡_, refl, sym, ap}
 use mathlib.Core.List.{List, [], _∷_}
 use mathlib.Core.Bool.{Bool, true, false, _&&_, and-true, false≢true}
 use native.Mathlib.Omega.{arith}

@@ -1,5 +1,5 @@
 -- An integer is read exactly where the rules spell it.
-use Prim.Native.Nat.{ℕ, _+_, _*_, _-_, _≤_}
+use Prim.Native.Nat.{ℕ, _+_, _-_, _≤_}
 use mathlib.Core.Path.{_≡_, refl, ap, sym, _∙_}
 use mathlib.Core.Logic.{⊎-elim}
 use mathlib.Core.List.{List, [], _∷_, _++_, append-assoc, append-nil}
@@ -9,12 +9,12 @@ use native.Mathlib.Omega.{arith}
 use native.Mathlib.Nat.{zero-add}
 use borrow.Author.Tests.{eqb-true, ne-eqb, le-leb, leb-true}
 use lib.Dec.{leb, eqb}
-use lib.IntN.{ℤ, pos, negℤ}
+use lib.IntN.{ℤ, pos}
 use Rattle.measure.specs.Signs.{signed}
 use Rattle.measure.specs.Limits.{largestInteger}
 use Rattle.measure.specs.Digits.{isDigit}
 use Rattle.measure.specs.Numbers.{digitHere}
-use Rattle.measure.specs.Integers.{digits, wholeOf, wholeBy, unsigned, readInteger}
+use Rattle.measure.specs.Integers.{digits, wholeBy, unsigned, readInteger}
 use Rattle.measure.specs.NumberRules.{Numeral, one, more}
 use Rattle.measure.specs.IntegerRules.{SpellsInteger, plain, plus, minus}
 use Rattle.measure.specs.declared.Integer.{Integer}

@@ -1,21 +1,21 @@
 -- A number is read exactly where the rules spell it.
-use Prim.Native.Nat.{ℕ, zero, suc, _+_, _*_, _-_, _/_, _^_, _≤_, _<_}
-use mathlib.Core.Path.{_≡_, refl, ap, sym, _∙_}
-use mathlib.Core.Logic.{_⊎_, inl, inr, ⊎-elim}
+use Prim.Native.Nat.{ℕ, zero, suc, _+_, _*_, _-_, _/_, _^_, _≤_}
+use mathlib.Core.Path.{_≡_, refl, _∙_}
+use mathlib.Core.Logic.{_⊎_, ⊎-elim}
 use mathlib.Core.List.{List, [], _∷_, _++_, append-assoc, append-nil}
-use mathlib.Core.Bool.{Bool, true, false, cond, not, _&&_, _||_, false≢true}
+use mathlib.Core.Bool.{Bool, true, false, cond, not, _&&_, false≢true}
 use native.Mathlib.Omega.{arith}
 use native.Mathlib.Nat.{zero-add, add-assoc}
 use borrow.Author.Tests.{le-leb, eq-eqb, ne-eqb, leb-true, eqb-true, not-false}
 use lib.Dec.{leb, eqb, eqb·suc-zero}
-use lib.IntN.{ℤ, pos, negℤ}
+use lib.IntN.{ℤ}
 use Rattle.text.proofs.Lists.{and-left, and-right}
 use Rattle.measure.specs.Signs.{signed}
 use Rattle.measure.specs.Digits.{isDigit, Digit}
 use Rattle.measure.specs.Numbers.{digitHere, judge, decimals, whole, body, readNumber}
 use Rattle.measure.specs.NumberRules.{Numeral, one, more, Decimals, last, next, Unsigned, noPoint, withPoint, SpellsNumber, plain, plus, minus}
 use Rattle.measure.specs.declared.NumberAnswer.{NumberAnswer}
-use Rattle.measure.specs.declared.NumberAnswer.the-variants.{Count, NotNumber, TooFine}
+use Rattle.measure.specs.declared.NumberAnswer.the-variants.{Count, NotNumber}
 use Rattle.measure.proofs.Tests.{cond-cases, or-false}
 use Rattle.measure.proofs.NumberLaws.{digit-low, digit-high}
 

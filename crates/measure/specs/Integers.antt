@@ -8,7 +8,6 @@ use Rattle.measure.specs.Signs.{signed}
 use Rattle.measure.specs.Limits.{largestInteger}
 use Rattle.measure.specs.Digits.{isDigit}
 use Rattle.measure.specs.Numbers.{digitHere}
-use Rattle.measure.specs.declared.Integer.{Integer}
 use Rattle.measure.specs.declared.WholeAnswer.{WholeAnswer}
 use Rattle.measure.specs.declared.WholeAnswer.the-variants.{Whole, NotInteger}
 

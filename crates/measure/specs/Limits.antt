@@ -3,13 +3,10 @@ use Prim.Native.Nat.{ℕ, suc}
 use mathlib.Core.Bool.{Bool, cond}
 use lib.Dec.{leb, ltb}
 use lib.IntN.{ℤ, pos, negsuc, natAbs}
-use Rattle.measure.specs.declared.Length.{Length}
 use Rattle.measure.specs.declared.LengthAnswer.{LengthAnswer}
 use Rattle.measure.specs.declared.LengthAnswer.the-variants as len
-use Rattle.measure.specs.declared.Angle.{Angle}
 use Rattle.measure.specs.declared.AngleAnswer.{AngleAnswer}
 use Rattle.measure.specs.declared.AngleAnswer.the-variants as ang
-use Rattle.measure.specs.declared.Integer.{Integer}
 use Rattle.measure.specs.declared.IntegerAnswer.{IntegerAnswer}
 use Rattle.measure.specs.declared.IntegerAnswer.the-variants as int
 

@@ -1,17 +1,16 @@
 -- Laws of the loop rule's leaves: two numbers compared by their bits, and labels one after the other.
-use Prim.Native.Nat.{ℕ, zero, suc, _^_, _<_}
+use Prim.Native.Nat.{zero, suc}
 use mathlib.Core.Path.{_≡_, refl, sym, ap, _∙_}
 use mathlib.Core.Option.{Option, none, some}
 use mathlib.Core.Bool.{Bool, true, false, not, cond, _&&_, _||_, true≢false, false≢true}
 use native.Mathlib.Omega.{arith}
 use mir.Syntax.{w64}
 use mir.Val.{SFits, toZ, ofZ}
-use mir.ValLaws.{toZ-ofZ, toZ-pos}
+use mir.ValLaws.{toZ-ofZ}
 use borrow.Author.Tests.{eqb-true, eqb-false, eq-eqb, ne-eqb}
 use lib.Dec.{eqb}
 use lib.IntN.{ℤ, pos, negsuc, sucℤ, _+ℤ_, +ℤ-sucℤ, +ℤ-idr}
-use Rattle.records.specs.Marks.{wholeTurn}
-use Rattle.records.specs.Loops.{eqZ, firstLabel, placeAt, samePlace, begins, goesOn, closes, reached, loopAfter}
+use Rattle.records.specs.Loops.{eqZ, firstLabel, placeAt, samePlace, goesOn, closes, reached, loopAfter}
 use Rattle.records.specs.Answers.{looped, turnsBy, begunBy, wentOn, nextLoop, secondBy, afterBack}
 use Rattle.records.specs.declared.Place.{Place}
 use Rattle.records.specs.declared.Point.{Point}

@@ -1,8 +1,8 @@
 -- Laws of the kind that a data line has by its place.
-use Prim.Native.Nat.{ℕ, _+_, _*_, _≤_, _<_}
+use Prim.Native.Nat.{ℕ, _+_, _*_, _≤_}
 use mathlib.Core.Path.{_≡_, refl, sym, ap, _∙_}
 use mathlib.Core.Option.{Option, none, some}
-use mathlib.Core.Bool.{Bool, true, false, cond, not, _&&_, false≢true}
+use mathlib.Core.Bool.{Bool, true, false, cond, _&&_}
 use native.Mathlib.Omega.{arith}
 use mir.Syntax.{w64}
 use mir.Val.{Fits}
@@ -12,11 +12,13 @@ use Rattle.text.proofs.Lists.{and-left, and-right}
 use Rattle.text.proofs.Tables.{allBelow, below-all}
 use Rattle.form.specs.Sections.{Shape, header, outline, component, keepout, listing, placements, sections}
 use Rattle.form.specs.Kinds.{kindAt}
+use Rattle.form.specs.declared.Keyword.{Keyword}
+use Rattle.form.specs.declared.Keyword.the-variants.{Opening, Closing, Unknown}
 use Rattle.form.specs.declared.Rules.{Rules}
 use Rattle.form.specs.declared.Rules.the-variants.{Idf3}
 use Rattle.records.specs.Marks.{shapeOf}
 use Rattle.records.specs.Answers.{lineNumber}
-use Rattle.records.specs.Automaton.{pointLine, hasProps, lineAt, sectionIn, kindBy, dataKind}
+use Rattle.records.specs.Automaton.{pointLine, hasProps, lineAt, sectionIn, kindBy, dataKind, keySection, keyKind}
 use Rattle.records.specs.declared.Stage.{Stage}
 use Rattle.records.specs.declared.LoopState.{LoopState}
 use Rattle.records.specs.declared.Phase.{Phase}
@@ -154,3 +156,34 @@ module _ (v : Rules) (st : State) (g : Stage) (s : ℕ) (p : Phase) (b : Bool) (
   pub kind-here : (n : ℕ) → n ≡ lineNumber (lineAt (shapeOf v s) p b) → (n ≡ 0 → ⊥) → 10 * s + n ≡ dataKind v st b
   unfolding dataKind
   kind-here n e i = rw (h, e) (kind-some v s (lineAt (shapeOf v s) p b) (λ z. i (e ∙ z)))
+
+-- keyword lines
+opens-with : (v : Rules) (s : ℕ) → 10 * s ≡ kindAt v s 0
+unfolding kindAt
+opens-with Idf3 s = omega arith
+
+closes-with : (v : Rules) (s : ℕ) → 10 * s + 9 ≡ kindAt v s 9
+unfolding kindAt
+closes-with Idf3 s = refl
+
+module _ (v : Rules) (k : Keyword) (s : ℕ) where
+  pub opening-fits : k ≡ Opening s → keySection k ≤ 15 → Fits w64 (10 * s)
+  opening-fits h l = let z : keySection k ≡ s = ap keySection h in record { fits = omega (arith, l, z) }
+
+  pub opening-kind : k ≡ Opening s → 10 * s ≡ keyKind v k
+  unfolding keyKind
+  opening-kind h = rw h (opens-with v s)
+
+  pub closing-fits : k ≡ Closing s → keySection k ≤ 15 → Fits w64 (10 * s)
+  closing-fits h l = let z : keySection k ≡ s = ap keySection h in record { fits = omega (arith, l, z) }
+
+  pub closing-whole : k ≡ Closing s → keySection k ≤ 15 → Fits w64 (10 * s + 9)
+  closing-whole h l = let z : keySection k ≡ s = ap keySection h in record { fits = omega (arith, l, z) }
+
+  pub closing-kind : k ≡ Closing s → 10 * s + 9 ≡ keyKind v k
+  unfolding keyKind
+  closing-kind h = rw h (closes-with v s)
+
+pub unknown-kind : (v : Rules) (k : Keyword) → k ≡ Unknown → 0 ≡ keyKind v k
+unfolding keyKind
+unknown-kind v k h = rw h

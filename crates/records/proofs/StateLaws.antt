@@ -1,31 +1,30 @@
 -- Laws of stages, phases and roles as the code reads them.
-use Prim.Native.Nat.{ℕ, zero, suc, _+_, _-_, _/_, _%_, _^_, _≤_, _<_}
-use mathlib.Core.Path.{_≡_, refl, sym, ap, _∙_}
+use Prim.Native.Nat.{ℕ, zero, suc, _-_, _/_, _%_, _≤_, _<_}
+use mathlib.Core.Path.{_≡_, refl, sym, _∙_}
 use mathlib.Core.List.{List, [], _∷_}
 use mathlib.Core.Option.{Option, none, some}
-use mathlib.Core.Bool.{Bool, true, false, cond, not, _&&_, _||_, false≢true}
+use mathlib.Core.Bool.{Bool, true, false, not, _&&_, _||_, false≢true}
 use native.Mathlib.Omega.{arith}
 use mir.Syntax.{w64}
 use mir.Val.{Fits}
-use borrow.Author.Tests.{eq-eqb, ne-eqb, eqb-true, leb-true, leb-false, lt-leb, le-leb}
+use borrow.Author.Tests.{ne-eqb, eqb-true, leb-true, leb-false, lt-leb}
 use lib.Dec.{leb, eqb}
 use lib.ListN.{length, getD}
 use Rattle.text.proofs.Lists.{and-left, and-right}
 use Rattle.text.proofs.Tables.{allBelow, below-all}
-use Rattle.form.specs.Sections.{outline, Section, sections, nth, sectionAt}
+use Rattle.form.specs.Sections.{outline, sections, nth}
 use Rattle.form.specs.Kinds.{sectionOf, lineOf, roleOf}
 use Rattle.form.specs.declared.Rules.{Rules}
 use Rattle.form.specs.declared.Rules.the-variants.{Idf3}
 use Rattle.form.specs.declared.FileType.{FileType}
-use Rattle.form.specs.declared.FileType.the-variants.{Board, Panel, Library}
-use Rattle.records.specs.Marks.{isLibrary, shapeBy, shapeOf, isMiddle, manyLoops}
+use Rattle.records.specs.Marks.{shapeOf, isMiddle, manyLoops}
 use Rattle.records.specs.Loops.{loopAfter, complete}
 use Rattle.records.specs.Roles.{roleTable}
 use Rattle.records.specs.Answers.{looped}
-use Rattle.records.specs.Automaton.{mayOpen, afterHeaded, after, mayEnd, accepting, startOf, roleNumber, afterTitle, afterPoint, onlyIf, onOrOut, standsBy, mayStand, amongPoints, movedBy, moved, stepped}
+use Rattle.records.specs.Automaton.{mayOpen, afterHeaded, after, startOf, roleNumber, afterTitle, afterPoint, onOrOut, standsBy, mayStand, amongPoints, movedBy, moved, stepped}
 use Rattle.records.specs.declared.Point.{Point}
 use Rattle.records.specs.declared.Stage.{Stage}
-use Rattle.records.specs.declared.Stage.the-variants.{Nothing, Headed, Middle, Finished}
+use Rattle.records.specs.declared.Stage.the-variants.{Headed, Middle, Finished}
 use Rattle.records.specs.declared.LoopState.{LoopState}
 use Rattle.records.specs.declared.LoopState.the-variants.{NoPoint}
 use Rattle.records.specs.declared.LoopAnswer.{LoopAnswer}

@@ -4,14 +4,15 @@ use mathlib.Core.Path.{_≡_, refl}
 use mathlib.Core.List.{List, [], _∷_}
 use mathlib.Core.Option.{Option, none, some}
 use mathlib.Core.Bool.{Bool, true, false, cond}
-use lib.IntN.{ℤ, pos}
+use lib.IntN.{pos}
 use Rattle.form.specs.Sections.{sections}
-use Rattle.form.specs.Kinds.{kindAt}
+use Rattle.form.specs.Kinds.{kindAt, sectionOf, lineOf, roleOf}
+use Rattle.form.specs.declared.Keyword.the-variants.{Opening, Closing, Unknown}
 use Rattle.form.specs.declared.Rules.the-variants.{Idf3}
 use Rattle.form.specs.declared.FileType.the-variants.{Board as board, Panel as panel, Library as library}
-use Rattle.records.specs.Marks.{shapeOf, manyLoops, isMiddle, wholeTurn}
+use Rattle.records.specs.Marks.{shapeOf, manyLoops, isMiddle}
 use Rattle.records.specs.Loops.{eqZ, loopAfter}
-use Rattle.records.specs.Automaton.{mayOpen, after, mayEnd, startOf, standsBy, movedBy, dataKind}
+use Rattle.records.specs.Automaton.{mayOpen, after, mayEnd, startOf, standsBy, movedBy, mayStand, dataKind, keyKind}
 use Rattle.records.specs.declared.Place.{Place}
 use Rattle.records.specs.declared.Point.{Point}
 use Rattle.records.specs.declared.Stage.{Stage}
@@ -167,10 +168,19 @@ pub record Within : Type 0 where
   kind-holes : kinds 11 inList ≡ 111 ∷ 111 ∷ []
   kind-part : kinds 13 awaitPart ≡ 131 ∷ 131 ∷ []
   kind-position : kinds 13 awaitPosition ≡ 132 ∷ 132 ∷ []
+  own-line : mayStand Idf3 (inside nothing 1 awaitTitle) 11 ≡ true
+  another-closing : mayStand Idf3 (inside nothing 5 (inPoints (round (pos 0)))) 49 ≡ false
+  an-opening : mayStand Idf3 (inside nothing 5 (inPoints (round (pos 0)))) 60 ≡ false
+  own-closing : mayStand Idf3 (inside nothing 5 (inPoints (round (pos 0)))) 59 ≡ true
+  unknown-keyword : mayStand Idf3 (inside nothing 5 awaitLead) (keyKind Idf3 Unknown) ≡ false
+  closing-between : mayStand Idf3 (between (headed board)) 29 ≡ false
+  data-between : mayStand Idf3 (between (headed board)) 21 ≡ false
+  opening-between : mayStand Idf3 (between (headed board)) (keyKind Idf3 (Opening 2)) ≡ true
+  kind-closing : keyKind Idf3 (Closing 13) ≡ 139
   kind-between : dataKind Idf3 (between finished) true ≡ 0
 
 pub within : Within
-unfolding manyLoops after shapeOf sections dataKind kindAt
+unfolding manyLoops after shapeOf sections dataKind keyKind kindAt mayStand mayOpen roleOf sectionOf lineOf
 within =
     record {
       title = refl;
@@ -217,6 +227,15 @@ within =
       kind-holes = refl;
       kind-part = refl;
       kind-position = refl;
+      own-line = refl;
+      another-closing = refl;
+      an-opening = refl;
+      own-closing = refl;
+      unknown-keyword = refl;
+      closing-between = refl;
+      data-between = refl;
+      opening-between = refl;
+      kind-closing = refl;
       kind-between = refl;
     }
 

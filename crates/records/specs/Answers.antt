@@ -1,7 +1,7 @@
 -- What the code's answers stand for.
 use Prim.Native.Nat.{ℕ}
 use mathlib.Core.Option.{Option, none, some}
-use mathlib.Core.Bool.{Bool, true, false, cond, _&&_}
+use mathlib.Core.Bool.{Bool, cond, _&&_}
 use lib.IntN.{ℤ, sucℤ}
 use Rattle.records.specs.Marks.{wholeTurn}
 use Rattle.records.specs.Loops.{eqZ, placeAt, begins, goesOn, closes, reached}

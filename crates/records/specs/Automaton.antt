@@ -10,6 +10,8 @@ use Rattle.form.specs.Sections.{Shape, header, outline, component, keepout, lis
 use Rattle.form.specs.Kinds.{kindAt, sectionOf, Role, opening, closing, title, name, lead, point, prop, entry, part, position, unknown, roleOf}
 use Rattle.form.specs.Fits.{under, wellFormed}
 use Rattle.form.specs.declared.Rules.{Rules}
+use Rattle.form.specs.declared.Keyword.{Keyword}
+use Rattle.form.specs.declared.Keyword.the-variants.{Opening, Closing, Unknown}
 use Rattle.form.specs.declared.FileType.{FileType}
 use Rattle.form.specs.declared.FileType.the-variants.{Board as board, Panel as panel, Library as library}
 use Rattle.records.specs.Marks.{shapeOf, manyLoops, isMiddle, isComponent, pointOf, typeIn, Named, namesAComponent, nameIn}
@@ -256,6 +258,18 @@ kindBy v s (some n) = kindAt v s n
 unfoldable pub dataKind : Rules → State → Bool → ℕ
 dataKind v (between g) saysProp = 0
 dataKind v (inside g s p) saysProp = kindBy v s (lineAt (shapeOf v s) p saysProp)
+
+-- the section that a keyword names, or 0
+abbrev pub keySection : Keyword → ℕ
+keySection (Opening s) = s
+keySection (Closing s) = s
+keySection Unknown = 0
+
+-- the kind of a keyword line; 0 where no section has the keyword
+unfoldable pub keyKind : Rules → Keyword → ℕ
+keyKind v (Opening s) = kindAt v s 0
+keyKind v (Closing s) = kindAt v s 9
+keyKind v Unknown = 0
 
 -- not refused, and a test passes of the next state
 abbrev pub accepted : Outcome → (State → Bool) → Bool

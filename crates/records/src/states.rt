@@ -9,13 +9,14 @@ use crate::Stage;
 use crate::State;
 use crate::loops;
 use form::FileType;
+use form::Keyword;
 use form::Rules;
 ghost use mathlib.Core.Path.{_≡_};
 ghost use Prim.Native.Nat.{_≤_};
 ghost use Rattle.form.specs.Kinds.{roleOf};
 ghost use Rattle.records.specs.Marks.{isLibrary, shapeOf, manyLoops, isMiddle};
 ghost use Rattle.records.specs.Loops.{loopAfter};
-ghost use Rattle.records.specs.Automaton.{refusalNumber, mayOpen, after, afterHeaded, mayEnd, accepting, afterTitle, startOf, roleNumber, standsBy, mayStand, afterPoint, onOrOut, amongPoints, movedBy, moved, stepped, pointLine, hasProps, lineAt, sectionIn, dataKind};
+ghost use Rattle.records.specs.Automaton.{refusalNumber, mayOpen, after, afterHeaded, mayEnd, accepting, afterTitle, startOf, roleNumber, standsBy, mayStand, afterPoint, onOrOut, amongPoints, movedBy, moved, stepped, pointLine, hasProps, lineAt, sectionIn, dataKind, keySection, keyKind};
 ghost use Rattle.records.specs.Answers.{lineNumber};
 ghost use Rattle.records.specs.declared.Stage.the-variants.{Headed, Middle};
 
@@ -336,6 +337,18 @@ pub fn data_kind(v: Rules, st: State, marked: bool) -> u64
             }
             10 * s + n
         }
+    }
+}
+
+// The kind of a keyword line, 0 where no section has the keyword.
+pub fn key_kind(v: Rules, k: Keyword) -> u64
+    requires { ⌜ keySection k ≤ 15 ⌝ }
+    ensures { λ r. ⌜ r ≡ keyKind v k ⌝ }
+{
+    match k {
+        Keyword::Opening(s) => 10 * s,
+        Keyword::Closing(s) => 10 * s + 9,
+        Keyword::Unknown => 0,
     }
 }
 

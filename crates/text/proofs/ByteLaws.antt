@@ -5,7 +5,7 @@ use mathlib.Core.Logic.{_≢_}
 use mathlib.Core.Bool.{Bool, true, false, cond}
 use native.Mathlib.Omega.{arith}
 use borrow.Author.Tests.{le-leb, lt-leb, eq-eqb, ne-eqb, eqb-true}
-use lib.Dec.{leb, eqb}
+use lib.Dec.{eqb}
 use Rattle.text.specs.Bytes.{permitted, classOf}
 use Rattle.text.specs.declared.ByteClass.{ByteClass}
 use Rattle.text.specs.declared.ByteClass.the-variants.{Space, Quote, Permitted, Forbidden}

@@ -1,18 +1,18 @@
 -- Laws of runs and of the first field, at the places where the code cites them.
-use Prim.Native.Nat.{ℕ, zero, suc, _+_, _-_, _^_, _≤_, _<_}
+use Prim.Native.Nat.{ℕ, suc, _+_, _-_, _^_, _≤_, _<_}
 use mir.Syntax.{w64}
 use mir.Val.{Fits}
-use mathlib.Core.Path.{_≡_, refl, sym, ap, _∙_}
+use mathlib.Core.Path.{_≡_, refl, _∙_}
 use mathlib.Core.Logic.{_≢_}
 use mathlib.Core.List.{List, [], _∷_}
-use mathlib.Core.Bool.{Bool, true, false, cond, not, _&&_}
+use mathlib.Core.Bool.{Bool, true, false, cond, _&&_}
 use native.Mathlib.Numerals.{add-one}
 use native.Mathlib.Omega.{arith}
 use borrow.Author.Tests.{ne-eqb}
 use lib.Dec.{eqb, eqb·zero-suc, eqb·suc-suc}
 use lib.ListN.{length, take, drop, getD, drop-of-length-le}
 use lib.Seq.{drop-cons}
-use Rattle.text.specs.Bytes.{isSpace, inBare, inQuotes, allOf}
+use Rattle.text.specs.Bytes.{allOf}
 use Rattle.text.specs.FirstField.{span, passesOf, runLen, endsWell, bareAt, closedAt, quotedAt, fieldAt, fieldOf}
 use Rattle.text.specs.declared.Run.{Run}
 use Rattle.text.specs.declared.Run.the-variants.{Spaces, Bare, Quoted}

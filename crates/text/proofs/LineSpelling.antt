@@ -1,15 +1,14 @@
 -- The lines of a file are the one list of lines that makes it, and a line is free exactly where it looks so.
 use Prim.Native.Nat.{ℕ, zero, suc, _+_, _≤_, _<_}
 use mathlib.Core.Path.{_≡_, refl, sym, ap, subst, _∙_}
-use mathlib.Core.List.{List, [], _∷_, _++_, append-nil}
+use mathlib.Core.List.{List, [], _∷_, _++_}
 use mathlib.Core.Bool.{Bool, true, false, cond, not, false≢true}
 use native.Mathlib.Nat.{add-zero}
-use native.Mathlib.Numerals.{add-one}
 use native.Mathlib.Omega.{arith}
-use borrow.Author.Tests.{eqb-true, eq-eqb, not-false, not-true, ltb-true}
+use borrow.Author.Tests.{eqb-true, not-true}
 use lib.Dec.{eqb, ltb}
-use lib.ListN.{length, take, drop, length-append, length-drop, take-append-drop}
-use lib.Seq.{drop-append-seam, take-append-seam, drop-at, take-all, drop-drop}
+use lib.ListN.{length, take, drop, length-drop, take-append-drop}
+use lib.Seq.{drop-append-seam, take-append-seam, take-all, drop-drop}
 use Rattle.text.specs.Bytes as by
 use Rattle.text.specs.Bytes.{isSpace, inLine, All, allOf, begins}
 use Rattle.text.specs.Lines.{endLen, contentLen, lineEnd, linesOf}
@@ -18,7 +17,7 @@ use Rattle.text.specs.LineRules.{File, none, last, next, Free, blank, co
 use Rattle.text.specs.declared.LineLook.{LineLook}
 use Rattle.text.specs.declared.LineLook.the-variants.{Comment, Blank, Other}
 use Rattle.text.proofs.Lists.{at-end, all-sound, all-complete}
-use Rattle.text.proofs.LineLaws.{content-le, line-inside, lines-none, lines-first}
+use Rattle.text.proofs.LineLaws.{lines-none, lines-first}
 
 -- a line's content holds no byte that ends a line
 content-all : (s : List ℕ) → All inLine (take (contentLen s) s)

@@ -1,7 +1,7 @@
 -- How a line spells a list of fields: producing rules.
 use Prim.Native.Nat.{ℕ}
 use mathlib.Core.List.{List, [], _∷_, _++_}
-use mathlib.Core.Bool.{Bool, true, false}
+use mathlib.Core.Bool.{true, false}
 use Rattle.text.specs.Bytes.{inBare, inQuotes, All, Field, field}
 
 -- a field is its bytes, at least one and none of them a space or a quote; or bytes that are no quote, between quotes

@@ -1,7 +1,7 @@
 -- The lines of a file. `endLen` alone knows which bytes end a line.
 use Prim.Native.Nat.{ℕ, zero, suc, _+_}
 use mathlib.Core.List.{List, [], _∷_}
-use mathlib.Core.Bool.{Bool, cond}
+use mathlib.Core.Bool.{cond}
 use lib.Dec.{ltb, eqb}
 use lib.ListN.{length, take, drop}
 use Rattle.text.specs.declared.LineEnd.{LineEnd}

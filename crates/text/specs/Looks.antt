@@ -1,7 +1,7 @@
 -- What a line is before its fields are looked at.
 use Prim.Native.Nat.{ℕ}
 use mathlib.Core.List.{List}
-use mathlib.Core.Bool.{Bool, cond}
+use mathlib.Core.Bool.{cond}
 use Rattle.text.specs.Bytes.{isSpace, allOf, begins}
 use Rattle.text.specs.declared.LineLook.{LineLook}
 use Rattle.text.specs.declared.LineLook.the-variants.{Comment, Blank, Other}

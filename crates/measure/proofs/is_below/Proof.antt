@@ -1,5 +1,5 @@
 -- `measure::is_below` meets its contract. An i64 is read back from its bits. Assumes nothing.
-use mathlib.Core.Path.{_≡_, ap, _∙_}
+use mathlib.Core.Path.{_≡_}
 use borrow.Author.Needs.{needs}
 use lib.IntN.{ℤ, pos}
 use lib.Signed.{ltZ}

@@ -6,7 +6,7 @@ use mathlib.Core.List.{List}
 use borrow.Author.Needs.{needs}
 use borrow.Author.Tests.{eq-eqb, ne-eqb}
 use lib.ListN.{length}
-use Rattle.text.specs.Bytes.{isSpace, allOf, begins}
+use Rattle.text.specs.Bytes.{isSpace, begins}
 use Rattle.text.specs.FirstField.{runLen}
 use Rattle.text.specs.Looks.{lookOf}
 use Rattle.text.specs.declared.Run.the-variants.{Spaces}

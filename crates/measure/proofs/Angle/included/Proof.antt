@@ -10,7 +10,6 @@ use mir.Val.{SFits}
 use mir.ValLaws.{toZ-ofZ}
 use Rattle.measure.specs.Signs.{below}
 use Rattle.measure.specs.Limits.{fullTurn, includedOf}
-use Rattle.measure.specs.declared.Angle.{Angle}
 use Rattle.measure.specs.declared.AngleAnswer.the-variants.{Made, Beyond}
 use Rattle.measure.proofs.SignLaws.{back, turn-over, turn-back, turn-in}
 use Rattle.measure.proofs.Angle.included.Statement.{statement}

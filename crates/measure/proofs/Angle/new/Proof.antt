@@ -7,7 +7,6 @@ use mir.Syntax.{w64}
 use mir.Val.{SFits}
 use mir.ValLaws.{toZ-ofZ}
 use Rattle.measure.specs.Limits.{largestAngle, angleOf}
-use Rattle.measure.specs.declared.Angle.{Angle}
 use Rattle.measure.specs.declared.AngleAnswer.the-variants.{Made, Beyond}
 use Rattle.measure.proofs.SignLaws.{back, limit-over, limit-in}
 use Rattle.measure.proofs.Angle.new.Statement.{statement}

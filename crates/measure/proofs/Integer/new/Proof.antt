@@ -7,7 +7,6 @@ use mir.Syntax.{w64}
 use mir.Val.{SFits}
 use mir.ValLaws.{toZ-ofZ}
 use Rattle.measure.specs.Limits.{largestInteger, integerOf}
-use Rattle.measure.specs.declared.Integer.{Integer}
 use Rattle.measure.specs.declared.IntegerAnswer.the-variants.{Made, Beyond}
 use Rattle.measure.proofs.SignLaws.{back, limit-over, limit-in}
 use Rattle.measure.proofs.Integer.new.Statement.{statement}

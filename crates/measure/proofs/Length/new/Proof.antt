@@ -7,7 +7,6 @@ use mir.Syntax.{w64}
 use mir.Val.{SFits}
 use mir.ValLaws.{toZ-ofZ}
 use Rattle.measure.specs.Limits.{largestLength, lengthOf}
-use Rattle.measure.specs.declared.Length.{Length}
 use Rattle.measure.specs.declared.LengthAnswer.the-variants.{Made, Beyond}
 use Rattle.measure.proofs.SignLaws.{back, limit-over, limit-in}
 use Rattle.measure.proofs.Length.new.Statement.{statement}

@@ -1,7 +1,6 @@
 -- `measure::print::numeral_len` meets its contract: each turn takes one digit off. Assumes nothing.
-use native.Mathlib.Omega.{arith}
 use borrow.Author.Needs.{needs}
-use Rattle.measure.proofs.PrintLaws.{Counting, count-start, count-few, count-more, count-over}
+use Rattle.measure.proofs.PrintLaws.{Counting, count-start, count-more, count-over}
 use Rattle.measure.proofs.print.numeral_len.Statement.{statement}
 use Rattle.measure.proofs.print.numeral_len.Tie as tie
 

@@ -1,4 +1,3 @@
-use mathlib.Core.Path.{sym, _∙_}
 use borrow.Author.Needs.{needs}
 use Rattle.measure.specs.DateRules.{datePieces}
 use Rattle.measure.proofs.DateLaws.{date-short, date-is}
