@@ -4,25 +4,31 @@ use Prim.Native.String.{String}
 use mathlib.Core.Path.{_≡_, refl}
 use mathlib.Core.List.{List, [], _∷_}
 use lib.IntN.{pos, negsuc}
-use Rattle.text.specs.Bytes.{permitted, allOf, begins, ascii}
+use Rattle.text.specs.Bytes.{permitted, allOf, begins, none, ascii}
+use Rattle.text.specs.LineRules.{blank, comment}
 use Rattle.text.specs.FirstField.{span, endsWell, bareAt, closedAt, quotedAt, fieldAt, fieldOf}
 use Rattle.text.specs.Fields.{fieldsIn, fieldsOf}
 use Rattle.measure.specs.Numbers.{digitHere, judge, decimals, whole, body, readNumber}
 use Rattle.measure.specs.Printing.{numeralOf, decimalsOf, magnitudeOf, signOf, printed}
-use Rattle.form.specs.Values.{Value, number, word, text, Reply, good, refused}
+use Rattle.form.specs.Values.{Value, number, word, text, Rec, Reply, good, refused}
 use Rattle.form.specs.Names.{wordsOf, sectionNames}
 use Rattle.form.specs.Compare.{sameBytes, folded, wordKey, sameWord, placeOf, wordAt}
 use Rattle.form.specs.Sections.{sections}
-use Rattle.form.specs.Kinds.{sectionOf, lineOf}
-use Rattle.form.specs.Layouts.{Front, keyword, prop, plain, layoutOf}
+use Rattle.form.specs.Kinds.{sectionOf, lineOf, roleOf}
+use Rattle.form.specs.Layouts.{Front, keyword, prop, plain, Layout, layoutOf}
 use Rattle.form.specs.Fits.{under, kept, within, meaning, barred, isEmpty}
 use Rattle.form.specs.Reading.{readField, readEach, readFields, lineAs, readLine}
 use Rattle.form.specs.declared.Rules.the-variants.{Idf3}
-use Rattle.form.specs.declared.FileType.the-variants.{Board}
+use Rattle.form.specs.declared.FileType.the-variants.{Board, Library}
 use Rattle.form.specs.declared.Words.the-variants.{Units, Owners, Faces}
 use Rattle.form.specs.declared.Limit.the-variants.{Length as L}
 use Rattle.form.specs.declared.FieldType.{FieldType}
 use Rattle.form.specs.declared.FieldType.the-variants.{Text as T, Reference as Ref, Number as N, Word as W}
+use Rattle.measure.specs.Integers.{digits, unsigned, readInteger}
+use Rattle.measure.specs.DateRules.{datePieces}
+use Rattle.measure.specs.Dates.{isTwo, fitsIn, isDate}
+use Rattle.spelling.specs.FileRules.{outside, SpellsLines, end, free, line}
+use Rattle.spelling.proofs.RecordSpelling.{record-sound}
 use Rattle.spelling.specs.Canonical.{needsQuotes, canonicalField, canonicalFields, written, joined, canonicalLine, canonicalRecord}
 
 -- a line of a board
@@ -56,3 +62,13 @@ pub canonical-lines :
     × (writes 149 [] ≡ ascii ".END_ELECTRICAL")
 unfolding canonicalRecord canonicalLine canonicalFields canonicalField written joined needsQuotes isEmpty allOf begins printed signOf magnitudeOf numeralOf decimalsOf wordsOf wordAt layoutOf sectionOf lineOf sections sectionNames
 canonical-lines = (refl, refl, refl, refl)
+
+abbrev of : ℕ → List Value → Rec
+of k vs = record { kind = k; values = vs }
+
+-- a library of a header, with a comment before it and a blank line behind it
+pub library-lines :
+    SpellsLines (under Idf3 Library) outside (of 10 [] ∷ of 11 (word 2 ∷ number (pos 300_000) ∷ txt "s" ∷ txt "2024/05/06.07:08:09" ∷ number (pos 1) ∷ []) ∷ of 19 [] ∷ [])
+    (ascii "# made by hand" ∷ ascii ".header" ∷ ascii "LIBRARY_FILE 3.0 s 2024/05/06.07:08:09 1" ∷ ascii ".END_HEADER" ∷ [] ∷ [])
+unfolding readLine lineAs begins allOf permitted fieldsOf fieldsIn fieldOf fieldAt bareAt quotedAt closedAt endsWell span readFields readEach readField meaning barred kept within readNumber body whole decimals judge digitHere wordsOf placeOf sameWord wordKey sameBytes folded layoutOf sectionOf lineOf sections sectionNames wordAt roleOf isDate fitsIn isTwo datePieces readInteger unsigned digits
+library-lines = free comment (line (record-sound (record { layout = _; known = refl; reads = refl })) (line (record-sound (record { layout = _; known = refl; reads = refl })) (line (record-sound (record { layout = _; known = refl; reads = refl })) (free (blank none) end))))

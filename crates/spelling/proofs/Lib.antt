@@ -8,4 +8,5 @@ pub mod LineSpelling
 pub mod RecordSpelling
 pub mod CanonicalFields
 pub mod CanonicalLines
+pub mod FileSpelling
 pub mod Cases

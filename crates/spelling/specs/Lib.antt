@@ -1,3 +1,4 @@
 pub mod WordRules
 pub mod RecordRules
 pub mod Canonical
+pub mod FileRules
