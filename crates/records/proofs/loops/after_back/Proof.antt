@@ -1,3 +1,4 @@
+-- `records::loops::after_back` meets its contract. Assumes nothing.
 use borrow.Author.Needs.{needs}
 use Rattle.records.proofs.LoopLaws.{back-on, back-next}
 use Rattle.records.proofs.loops.after_back.Statement.{statement}

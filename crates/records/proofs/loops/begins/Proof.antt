@@ -1,3 +1,4 @@
+-- `records::loops::begins` meets its contract. Assumes nothing.
 use borrow.Author.Needs.{needs}
 use Rattle.records.proofs.LoopLaws.{begun, not-begun}
 use Rattle.records.proofs.loops.begins.Statement.{statement}

@@ -1,3 +1,4 @@
+-- `records::loops::closes` meets its contract. Assumes nothing.
 use borrow.Author.Needs.{needs}
 use Rattle.records.proofs.LoopLaws.{closes-is}
 use Rattle.records.proofs.loops.closes.Statement.{statement}

@@ -1,3 +1,4 @@
+-- `records::loops::first_label` meets its contract. Assumes nothing.
 use borrow.Author.Needs.{needs}
 use Rattle.records.proofs.LoopLaws.{first-is}
 use Rattle.records.proofs.loops.first_label.Statement.{statement}

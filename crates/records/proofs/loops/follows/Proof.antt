@@ -1,3 +1,4 @@
+-- `records::loops::follows` meets its contract. Assumes nothing.
 use borrow.Author.Needs.{needs}
 use Rattle.records.proofs.LoopLaws.{none-follows, add-fits, follows-is}
 use Rattle.records.proofs.loops.follows.Statement.{statement}

@@ -1,3 +1,4 @@
+-- `records::loops::goes_on` meets its contract. Assumes nothing.
 use borrow.Author.Needs.{needs}
 use Rattle.records.proofs.LoopLaws.{goes-is}
 use Rattle.records.proofs.loops.goes_on.Statement.{statement}

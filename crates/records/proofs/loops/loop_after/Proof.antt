@@ -1,3 +1,4 @@
+-- `records::loops::loop_after` meets its contract. Assumes nothing.
 use borrow.Author.Needs.{needs}
 use Rattle.records.proofs.LoopLaws.{after-none, after-one, after-away, after-return, after-round}
 use Rattle.records.proofs.loops.loop_after.Statement.{statement}

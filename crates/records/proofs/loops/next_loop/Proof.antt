@@ -1,3 +1,4 @@
+-- `records::loops::next_loop` meets its contract. Assumes nothing.
 use borrow.Author.Needs.{needs}
 use Rattle.records.proofs.LoopLaws.{next-is}
 use Rattle.records.proofs.loops.next_loop.Statement.{statement}

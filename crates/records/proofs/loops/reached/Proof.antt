@@ -1,3 +1,4 @@
+-- `records::loops::reached` meets its contract. Assumes nothing.
 use borrow.Author.Needs.{needs}
 use Rattle.records.proofs.LoopLaws.{reached-back, reached-away}
 use Rattle.records.proofs.loops.reached.Statement.{statement}

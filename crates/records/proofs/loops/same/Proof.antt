@@ -1,3 +1,4 @@
+-- `records::loops::same` meets its contract. Assumes nothing.
 use borrow.Author.Needs.{needs}
 use Rattle.records.proofs.LoopLaws.{bits-same}
 use Rattle.records.proofs.loops.same.Statement.{statement}

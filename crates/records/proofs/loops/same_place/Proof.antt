@@ -1,3 +1,4 @@
+-- `records::loops::same_place` meets its contract. Assumes nothing.
 use borrow.Author.Needs.{needs}
 use Rattle.records.proofs.LoopLaws.{both-same}
 use Rattle.records.proofs.loops.same_place.Statement.{statement}

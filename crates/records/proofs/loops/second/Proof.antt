@@ -1,3 +1,4 @@
+-- `records::loops::second` meets its contract. Assumes nothing.
 use borrow.Author.Needs.{needs}
 use Rattle.records.proofs.LoopLaws.{round-is, path-is}
 use Rattle.records.proofs.loops.second.Statement.{statement}

@@ -1,3 +1,4 @@
+-- `records::loops::turns` meets its contract. Assumes nothing.
 use borrow.Author.Needs.{needs}
 use Rattle.records.proofs.LoopLaws.{same-as}
 use Rattle.records.proofs.loops.turns.Statement.{statement}

@@ -1,3 +1,4 @@
+-- `records::loops::went_on` meets its contract. Assumes nothing.
 use borrow.Author.Needs.{needs}
 use Rattle.records.proofs.LoopLaws.{onward-is, not-onward}
 use Rattle.records.proofs.loops.went_on.Statement.{statement}

@@ -1,3 +1,4 @@
+-- `records::states::advance` meets its contract. Assumes nothing.
 use borrow.Author.Needs.{needs}
 use Rattle.records.proofs.StateLaws.{step-moves, step-misplaced}
 use Rattle.records.proofs.states.advance.Statement.{statement}

@@ -1,3 +1,4 @@
+-- `records::states::after` meets its contract. Assumes nothing.
 use borrow.Author.Needs.{needs}
 use Rattle.records.specs.Automaton.{after}
 use Rattle.records.proofs.StateLaws.{after-last, after-middle, after-at}

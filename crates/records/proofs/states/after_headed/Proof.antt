@@ -1,3 +1,4 @@
+-- `records::states::after_headed` meets its contract. Assumes nothing.
 use borrow.Author.Needs.{needs}
 use Rattle.records.proofs.StateLaws.{goes-at}
 use Rattle.records.proofs.states.after_headed.Statement.{statement}

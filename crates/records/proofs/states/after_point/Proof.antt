@@ -1,3 +1,4 @@
+-- `records::states::after_point` meets its contract. Assumes nothing.
 use borrow.Author.Needs.{needs}
 use Rattle.records.proofs.StateLaws.{point-at}
 use Rattle.records.proofs.states.after_point.Statement.{statement}

@@ -1,3 +1,4 @@
+-- `records::states::after_title` meets its contract. Assumes nothing.
 use borrow.Author.Needs.{needs}
 use Rattle.records.proofs.StateLaws.{title-at}
 use Rattle.records.proofs.states.after_title.Statement.{statement}

@@ -1,3 +1,4 @@
+-- `records::states::among_points` meets its contract. Assumes nothing.
 use borrow.Author.Needs.{needs}
 use Rattle.records.proofs.StateLaws.{among-point, among-done, among-open}
 use Rattle.records.proofs.states.among_points.Statement.{statement}

@@ -1,3 +1,4 @@
+-- `records::states::data_kind` meets its contract. Assumes nothing.
 use borrow.Author.Needs.{needs}
 use Rattle.records.proofs.PlaceLaws.{none-between, ten-fits, kind-fits, none-here, kind-here}
 use Rattle.records.proofs.states.data_kind.Statement.{statement}

@@ -1,3 +1,4 @@
+-- `records::states::has_props` meets its contract. Assumes nothing.
 use borrow.Author.Needs.{needs}
 use Rattle.records.proofs.PlaceLaws.{props-is}
 use Rattle.records.proofs.states.has_props.Statement.{statement}

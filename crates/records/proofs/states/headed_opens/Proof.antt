@@ -1,3 +1,4 @@
+-- `records::states::headed_opens` meets its contract. Assumes nothing.
 use borrow.Author.Needs.{needs}
 use Rattle.records.specs.Automaton.{mayOpen}
 use Rattle.records.proofs.StateLaws.{headed-at}

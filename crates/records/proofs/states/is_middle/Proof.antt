@@ -1,3 +1,4 @@
+-- `records::states::is_middle` meets its contract. Assumes nothing.
 use borrow.Author.Needs.{needs}
 use Rattle.records.proofs.StateLaws.{middle-is}
 use Rattle.records.proofs.states.is_middle.Statement.{statement}

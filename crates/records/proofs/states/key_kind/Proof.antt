@@ -1,3 +1,4 @@
+-- `records::states::key_kind` meets its contract. Assumes nothing.
 use borrow.Author.Needs.{needs}
 use Rattle.records.proofs.PlaceLaws.{opening-fits, opening-kind, closing-fits, closing-whole, closing-kind, unknown-kind}
 use Rattle.records.proofs.states.key_kind.Statement.{statement}

@@ -1,3 +1,4 @@
+-- `records::states::line_at` meets its contract. Assumes nothing.
 use borrow.Author.Needs.{needs}
 use Rattle.records.proofs.PlaceLaws.{prop-line, a-point, next-prop, no-line}
 use Rattle.records.proofs.states.line_at.Statement.{statement}

@@ -1,3 +1,4 @@
+-- `records::states::many_loops` meets its contract. Assumes nothing.
 use borrow.Author.Needs.{needs}
 use Rattle.records.specs.Marks.{manyLoops}
 use Rattle.records.proofs.states.many_loops.Statement.{statement}

@@ -1,3 +1,4 @@
+-- `records::states::may_stand` meets its contract. Assumes nothing.
 use borrow.Author.Needs.{needs}
 use Rattle.records.proofs.StateLaws.{stand-between, stand-inside}
 use Rattle.records.proofs.states.may_stand.Statement.{statement}

@@ -1,3 +1,4 @@
+-- `records::states::middle_opens` meets its contract. Assumes nothing.
 use borrow.Author.Needs.{needs}
 use Rattle.records.proofs.StateLaws.{opens-middle}
 use Rattle.records.proofs.states.middle_opens.Statement.{statement}

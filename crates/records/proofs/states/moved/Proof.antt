@@ -1,3 +1,4 @@
+-- `records::states::moved` meets its contract. Assumes nothing.
 use borrow.Author.Needs.{needs}
 use Rattle.records.proofs.StateLaws.{moved-between, moved-inside}
 use Rattle.records.proofs.states.moved.Statement.{statement}

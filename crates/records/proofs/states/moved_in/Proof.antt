@@ -1,3 +1,4 @@
+-- `records::states::moved_in` meets its contract. Assumes nothing.
 use borrow.Author.Needs.{needs}
 use Rattle.records.proofs.StateLaws.{title-moves, moves-at}
 use Rattle.records.proofs.states.moved_in.Statement.{statement}

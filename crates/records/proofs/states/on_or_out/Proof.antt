@@ -1,3 +1,4 @@
+-- `records::states::on_or_out` meets its contract. Assumes nothing.
 use borrow.Author.Needs.{needs}
 use Rattle.records.proofs.StateLaws.{stays-on, goes-out}
 use Rattle.records.proofs.states.on_or_out.Statement.{statement}

@@ -1,3 +1,4 @@
+-- `records::states::point_line` meets its contract. Assumes nothing.
 use borrow.Author.Needs.{needs}
 use Rattle.records.proofs.PlaceLaws.{point-first, point-second}
 use Rattle.records.proofs.states.point_line.Statement.{statement}

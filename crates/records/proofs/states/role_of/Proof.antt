@@ -1,3 +1,4 @@
+-- `records::states::role_of` meets its contract. Assumes nothing.
 use borrow.Author.Needs.{needs}
 use Rattle.records.specs.Roles.{roleTable}
 use Rattle.records.proofs.StateLaws.{role-low, role-fits, role-is, role-none}

@@ -1,3 +1,4 @@
+-- `records::states::stands_in` meets its contract. Assumes nothing.
 use borrow.Author.Needs.{needs}
 use Rattle.records.proofs.StateLaws.{stands-at}
 use Rattle.records.proofs.states.stands_in.Statement.{statement}

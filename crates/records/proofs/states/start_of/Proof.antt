@@ -1,3 +1,4 @@
+-- `records::states::start_of` meets its contract. Assumes nothing.
 use borrow.Author.Needs.{needs}
 use Rattle.records.proofs.StateLaws.{start-title, start-points, start-holes, start-notes, start-parts, start-lead}
 use Rattle.records.proofs.states.start_of.Statement.{statement}
