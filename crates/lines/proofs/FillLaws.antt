@@ -44,7 +44,7 @@ use Rattle.form.specs.declared.Words.the-variants.{FileTypes, Units, Owners, Fa
 use Rattle.form.specs.declared.Limit.{Limit}
 use Rattle.form.specs.declared.FieldType.{FieldType}
 use Rattle.form.specs.declared.FieldType.the-variants.{Text as T, Reference as Ref, Date as D, Integer as I, Number as N, Word as W}
-use Rattle.lines.specs.Rows.{entryOf, entryBy, entryAt, putOne, putRefused, putEntry, FieldRoom, begun, fillFrom, filled}
+use Rattle.lines.specs.Rows.{width, entryOf, entryBy, entryAt, putOne, putRefused, putEntry, FieldRoom, begun, fillFrom, filled}
 use Rattle.lines.specs.declared.Entry.{Entry}
 use Rattle.lines.specs.declared.Entry.the-variants.{Number, Word, Text, Refused}
 use Rattle.lines.specs.declared.Filling.{Filling}
@@ -145,7 +145,7 @@ module _ (c : Context) (t : FieldType) (s : List ℕ) (b : ℕ) (f : Filling) (r
   like {x} k = subst (Shaped t s) (sym h ∙ k) (shaped c t (f .at) s (r .within))
 
   module _ (z : ℤ) (m : ℕ) (k : e ≡ Number z m) where
-    pub number-room : f .column < 10
+    pub number-room : f .column < width
     number-room = omega (arith, r .columns, like k .0)
 
     pub number-put : SFits w64 z → (g : Filling) → g ≡ putOne f (back z) m → g ≡ putEntry b f (entryAt c t (f .at) s)
@@ -155,7 +155,7 @@ module _ (c : Context) (t : FieldType) (s : List ℕ) (b : ℕ) (f : Filling) (r
     pub word-fits : SFits w64 (pos n)
     word-fits = record { sfits = omega (arith, like k .1) }
 
-    pub word-room : f .column < 10
+    pub word-room : f .column < width
     word-room = omega (arith, r .columns, like k .0)
 
     pub word-put : (g : Filling) → g ≡ putOne f (toZ w64 n) m → g ≡ putEntry b f (entryAt c t (f .at) s)
@@ -165,7 +165,7 @@ module _ (c : Context) (t : FieldType) (s : List ℕ) (b : ℕ) (f : Filling) (r
     pub text-fits : Fits w64 (b + a)
     text-fits = omega (arith, r .small, like k .1)
 
-    pub text-room : f .column < 9
+    pub text-room : f .column + 1 < width
     text-room = omega (arith, r .columns, like k .0)
 
     pub text-start : b + a < 2 ^ 63
@@ -197,7 +197,7 @@ pub record Fills (c : Context) (k : ℕ) (s : List ℕ) (b m n : ℕ) (f : Filli
   pub within : i ≤ n
   pub place : f .at ≤ length s
   pub small : b + length s < 2 ^ 62
-  pub columns : f .column + widths (drop i (typesOf (c .rules) k)) ≤ 10
+  pub columns : f .column + widths (drop i (typesOf (c .rules) k)) ≤ width
   pub left : fillFrom c b s (drop i (typesOf (c .rules) k)) f ≡ filled c k b s m
 
 pub fills-start : (c : Context) (k : ℕ) (s : List ℕ) (b m n : ℕ) (f : Filling) → n ≡ length (typesOf (c .rules) k) → m ≤ length s → b + length s < 2 ^ 62 → f ≡ begun k m → Fills c k s b m n f 0

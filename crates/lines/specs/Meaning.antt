@@ -11,6 +11,7 @@ use Rattle.form.specs.declared.Words.{Words}
 use Rattle.form.specs.declared.FieldType.{FieldType}
 use Rattle.form.specs.declared.FieldType.the-variants.{Text as T, Reference as Ref, Date as D, Integer as I, Number as N, Word as W}
 use Rattle.lines.specs.declared.Filling.{Filling}
+use Rattle.lines.specs.Rows.{width}
 
 abbrev pub isText : FieldType → Bool
 isText T = true
@@ -36,12 +37,12 @@ pub data Means (file : List ℕ) : List FieldType → List ℤ → List Value �
   aDate : {a l : ℕ} {ts : List FieldType} {cs : List ℤ} {vs : List Value} → Means file ts cs vs → Means file (D ∷ ts) (pos a ∷ pos l ∷ cs) (text (take l (drop a file)) ∷ vs)
   aText : {t : FieldType} {a l : ℕ} {ts : List FieldType} {cs : List ℤ} {vs : List Value} → isText t ≡ true → Means file ts cs vs → Means file (t ∷ ts) (pos a ∷ pos l ∷ cs) (text (meaning t (take l (drop a file))) ∷ vs)
 
--- a row of kind k holds values: the kind, columns that mean the values, and 0 in what is left of ten columns
+-- a row of kind k holds values: the kind, columns that mean the values, and 0 in what is left of its columns
 pub record Holds (file : List ℕ) (k : ℕ) (ts : List FieldType) (row : List ℤ) (vs : List Value) : Type 0 where
   pub columns : List ℤ
   pub left : ℕ
   pub is : row ≡ pos k ∷ (columns ++ replicate left (pos 0))
-  pub ten : suc (length columns) + left ≡ 10
+  pub ten : suc (length columns) + left ≡ width
   pub means : Means file ts columns vs
 
 -- a row that was filled to its end

@@ -19,6 +19,10 @@ use Rattle.lines.specs.declared.Entry.{Entry}
 use Rattle.lines.specs.declared.Entry.the-variants.{Number, Word, Text, Refused}
 use Rattle.lines.specs.declared.Filling.{Filling}
 
+-- how many numbers a row has
+abbrev pub width : ℕ
+width = 10
+
 -- a value that stands from a on, l bytes long, before the place m
 abbrev pub entryOf : ℕ → ℕ → ℕ → Reply Value → Entry
 entryOf a l m (good (number z)) = Number z m
@@ -51,7 +55,7 @@ putEntry b f (Refused n) = putRefused f n
 
 -- there is room for a field's columns, its place is in the line, and the line in a file
 pub record FieldRoom (t : FieldType) (s : List ℕ) (b : ℕ) (f : Filling) : Type 0 where
-  pub columns : f .column + widthOf t ≤ 10
+  pub columns : f .column + widthOf t ≤ width
   pub within : f .at ≤ length s
   pub small : b + length s < 2 ^ 62
 

@@ -19,9 +19,12 @@ pub enum Entry {
     Refused(u64),
 }
 
+// How many numbers a row has.
+pub const WIDTH: usize = 10;
+
 // A row as it is filled: its columns, the next one, the place in the line, and a refusal's number or 0.
 pub struct Filling {
-    pub row: [i64; 10],
+    pub row: [i64; WIDTH],
     pub column: usize,
     pub at: usize,
     pub refused: u64,

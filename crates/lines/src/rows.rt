@@ -9,7 +9,7 @@ ghost use mathlib.Core.Path.{_≡_};
 ghost use Prim.Native.Nat.{_+_, _^_, _≤_, _<_};
 ghost use lib.IntN.{pos};
 ghost use lib.ListN.{length};
-ghost use Rattle.lines.specs.Rows.{entryAt, putOne, putRefused, putEntry, FieldRoom, begun, filled};
+ghost use Rattle.lines.specs.Rows.{width, entryAt, putOne, putRefused, putEntry, FieldRoom, begun, filled};
 
 // The next field of a line from a place on, by its type.
 fn next_entry(c: Context, t: FieldType, s: &[u8], at: usize) -> Entry
@@ -38,7 +38,7 @@ fn next_entry(c: Context, t: FieldType, s: &[u8], at: usize) -> Entry
 
 // One column more.
 fn put_one(f: Filling, z: i64, at: usize) -> Filling
-    requires { ⌜ f .column < 10 ⌝ }
+    requires { ⌜ f .column < width ⌝ }
     ensures { λ r. ⌜ r ≡ putOne f z at ⌝ }
 {
     let mut g = f;
@@ -51,7 +51,7 @@ fn put_one(f: Filling, z: i64, at: usize) -> Filling
 
 // A text's two columns: its start in the file and its length.
 fn put_text(f: Filling, start: usize, len: usize, at: usize) -> Filling
-    requires { ⌜ (f .column < 9) × (start < 2 ^ 63) × (len < 2 ^ 63) ⌝ }
+    requires { ⌜ (f .column + 1 < width) × (start < 2 ^ 63) × (len < 2 ^ 63) ⌝ }
     ensures { λ r. ⌜ r ≡ putOne (putOne f (pos start) at) (pos len) at ⌝ }
 {
     let g = put_one(f, start as i64, at);

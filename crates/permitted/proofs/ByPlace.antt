@@ -79,17 +79,17 @@ module _ (v : Rules) where
     pub given : lineAt (shapeOf v s) p (isProp r) ≡ some line
     pub kind-is : r .kind ≡ kindAt v s line
 
-  module _ (g : Stage) (s : ℕ) (r : Rec) (in-s : sectionOf v (r .kind) ≡ s) where
-    kind-by : (a : Role) → isRole a unknown ≡ false → roleOf v (r .kind) ≡ a → r .kind ≡ kindAt v s (lineFor (shapeOf v s) a)
-    kind-by a u e =
-        let k = r .kind in
-        let f = shapeOf v (sectionOf v k) in
-        let known : isRole (roleOf v k) unknown ≡ false = rw e u in
-        let i : roleIn f (lineOf v k) ≡ a = sym (role-is v k known) ∙ e in
-        let l : lineFor f a ≡ lineOf v k = subst (λ (x : Role). lineFor f x ≡ lineOf v k) i (line-for f (lineOf v k) (rw i u)) in
-        let z : kindAt v (sectionOf v k) (lineFor (shapeOf v (sectionOf v k)) a) ≡ k = ap (kindAt v (sectionOf v k)) l ∙ kind-of v k known in
-        sym (subst (λ (i : ℕ). kindAt v i (lineFor (shapeOf v i) a) ≡ k) in-s z)
+  -- the kind with a role, by section and line
+  pub kind-by : {s : ℕ} (k : ℕ) → sectionOf v k ≡ s → (a : Role) → isRole a unknown ≡ false → roleOf v k ≡ a → k ≡ kindAt v s (lineFor (shapeOf v s) a)
+  kind-by k in-s a u e =
+      let f = shapeOf v (sectionOf v k) in
+      let known : isRole (roleOf v k) unknown ≡ false = rw e u in
+      let i : roleIn f (lineOf v k) ≡ a = sym (role-is v k known) ∙ e in
+      let l : lineFor f a ≡ lineOf v k = subst (λ (x : Role). lineFor f x ≡ lineOf v k) i (line-for f (lineOf v k) (rw i u)) in
+      let z : kindAt v (sectionOf v k) (lineFor (shapeOf v (sectionOf v k)) a) ≡ k = ap (kindAt v (sectionOf v k)) l ∙ kind-of v k known in
+      sym (subst (λ (i : ℕ). kindAt v i (lineFor (shapeOf v i) a) ≡ k) in-s z)
 
+  module _ (g : Stage) (s : ℕ) (r : Rec) (in-s : sectionOf v (r .kind) ≡ s) where
     abbrev Not5 : Outcome → Type 0
     Not5 o = o ≡ refused misplaced → ⊥
 
@@ -107,7 +107,7 @@ module _ (v : Rules) where
 
     a-line : (p : Phase) (a : Role) → isRole a unknown ≡ false → lineAt (shapeOf v s) p (isRole a prop) ≡ some (lineFor (shapeOf v s) a)
         → roleOf v (r .kind) ≡ a → ByPlace s p r
-    a-line p a u l e = record { line = lineFor (shapeOf v s) a; given = rw e l; kind-is = kind-by a u e }
+    a-line p a u l e = record { line = lineFor (shapeOf v s) a; given = rw e l; kind-is = kind-by (r .kind) in-s a u e }
 
     props-here : roleOf v (r .kind) ≡ prop → hasProps (shapeOf v s) ≡ true
     props-here e = ap hasProps (subst (λ (i : ℕ). shapeOf v i ≡ component) in-s (prop-component v (r .kind) e))

@@ -26,11 +26,11 @@ use Rattle.permitted.proofs.Viable.{Ending, quietly, with-one, ending}
 
 module _ (v : Rules) where
   -- one record taken, with its name if it has one
-  record Taken (used : List Named) (st mid : State) (r : Rec) : Type 0 where
-    moves : advance v st r ≡ next mid
-    is-new : repeats v used r ≡ false
+  pub record Taken (used : List Named) (st mid : State) (r : Rec) : Type 0 where
+    pub moves : advance v st r ≡ next mid
+    pub is-new : repeats v used r ≡ false
 
-  taken : (used : List Named) (st mid : State) (r : Rec) → judge v used st r ≡ next mid → Taken used st mid r
+  pub taken : (used : List Named) (st mid : State) (r : Rec) → judge v used st r ≡ next mid → Taken used st mid r
   taken used st mid r = go (repeats v used r) (advance v st r) refl refl
     where
       go : (b : Bool) (o : Outcome) → repeats v used r ≡ b → advance v st r ≡ o → unless b o ≡ next mid → Taken used st mid r
@@ -47,11 +47,11 @@ module _ (v : Rules) where
       go true h u = unused-one (not-among _ _ h) u
       go false h u = u
 
-  later-through : (x : Ran) (en : State) → later x ≡ through en → x ≡ through en
+  pub later-through : (x : Ran) (en : State) → later x ≡ through en → x ≡ through en
   later-through (through t) en h = h
   later-through (stopped k e) en h = let z : _≡_ {A = ℕ} 0 1 = cc in absurd (omega arith)
 
-  through-same : {st en : State} → through st ≡ through en → st ≡ en
+  pub through-same : {st en : State} → through st ≡ through en → st ≡ en
   through-same {st} {en} h = cc
 
   through-leads : (rs : List Rec) (used : List Named) (st en : State) → run v used st rs ≡ through en → Leads v st rs en × Unused used (namesOf v rs)

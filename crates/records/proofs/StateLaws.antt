@@ -21,7 +21,7 @@ use Rattle.records.specs.Marks.{shapeOf, isMiddle, manyLoops}
 use Rattle.records.specs.Loops.{loopAfter, complete}
 use Rattle.records.specs.Roles.{roleTable}
 use Rattle.records.specs.Answers.{looped}
-use Rattle.records.specs.Automaton.{mayOpen, afterHeaded, after, startOf, roleNumber, afterTitle, afterPoint, onOrOut, standsBy, mayStand, amongPoints, movedBy, moved, stepped}
+use Rattle.records.specs.Automaton.{mayOpen, afterHeaded, after, startOf, roleNumber, afterTitle, afterPoint, onOrOut, standsBy, mayStand, amongPoints, movedBy, moved, stepped, typeAt}
 use Rattle.records.specs.declared.Point.{Point}
 use Rattle.records.specs.declared.Stage.{Stage}
 use Rattle.records.specs.declared.Stage.the-variants.{Headed, Middle, Finished}
@@ -250,3 +250,7 @@ unfolding stepped
 step-misplaced v st k t d x e f =
     let z : mayStand v st k ≡ false = sym e ∙ f in
     rw z
+
+-- the file's type
+pub type-at : (st x : State) (r : FileType) → st ≡ x → r ≡ typeAt x → r ≡ typeAt st
+type-at st x r h e = rw h e

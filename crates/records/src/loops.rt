@@ -10,7 +10,7 @@ ghost use Rattle.records.specs.Loops.{eqZ, samePlace, placeAt, firstLabe
 ghost use Rattle.records.specs.Answers.{looped, turnsBy, begunBy, wentOn, nextLoop, secondBy, afterBack};
 
 // Whether two numbers are the same.
-fn same(a: i64, b: i64) -> bool
+pub fn same(a: i64, b: i64) -> bool
     ensures { λ r. ⌜ r ≡ eqZ a b ⌝ }
 {
     a == b

@@ -16,7 +16,7 @@ ghost use Prim.Native.Nat.{_≤_};
 ghost use Rattle.form.specs.Kinds.{roleOf};
 ghost use Rattle.records.specs.Marks.{isLibrary, shapeOf, manyLoops, isMiddle};
 ghost use Rattle.records.specs.Loops.{loopAfter};
-ghost use Rattle.records.specs.Automaton.{refusalNumber, mayOpen, after, afterHeaded, mayEnd, accepting, afterTitle, startOf, roleNumber, standsBy, mayStand, afterPoint, onOrOut, amongPoints, movedBy, moved, stepped, pointLine, hasProps, lineAt, sectionIn, dataKind, keySection, keyKind};
+ghost use Rattle.records.specs.Automaton.{refusalNumber, mayOpen, after, afterHeaded, mayEnd, accepting, afterTitle, startOf, roleNumber, standsBy, mayStand, afterPoint, onOrOut, amongPoints, movedBy, moved, stepped, fileOf, typeAt, pointLine, hasProps, lineAt, sectionIn, dataKind, keySection, keyKind};
 ghost use Rattle.records.specs.Answers.{lineNumber};
 ghost use Rattle.records.specs.declared.Stage.the-variants.{Headed, Middle};
 
@@ -361,5 +361,27 @@ pub fn refusal_number(e: Reason, fields: u64) -> u64
         Reason::Unfit => fields,
         Reason::BadLoop => 11,
         Reason::Repeated => 12,
+    }
+}
+
+// The file's type by the sections behind us, a library's where none says it.
+fn file_of(g: Stage) -> FileType
+    ensures { λ r. ⌜ r ≡ fileOf g ⌝ }
+{
+    match g {
+        Stage::Nothing => FileType::Library,
+        Stage::Headed(t) => t,
+        Stage::Middle(t, _, _) => t,
+        Stage::Finished => FileType::Library,
+    }
+}
+
+// The file's type in a state.
+pub fn type_at(st: State) -> FileType
+    ensures { λ r. ⌜ r ≡ typeAt st ⌝ }
+{
+    match st {
+        State::Between(g) => file_of(g),
+        State::Inside(g, _, _) => file_of(g),
     }
 }

@@ -21,7 +21,7 @@ use Rattle.spelling.specs.FileRules.{Where, outside, inside, leadsTo, Sp
 use Rattle.spelling.proofs.Logic.{refused-good}
 use Rattle.spelling.proofs.RecordSpelling.{record-complete, record-unique}
 
-spaces-spell : {l : List ℕ} → All isSpace l → Spelled [] l
+pub spaces-spell : {l : List ℕ} → All isSpace l → Spelled [] l
 spaces-spell none = noField
 spaces-spell (one {b = b} e a) = rw (eqb-true b 32 e) (space (spaces-spell a))
 

@@ -1,5 +1,5 @@
 -- `lines::rows::put_text` meets its contract. Assumes nothing.
-use Prim.Native.Nat.{ℕ, _^_, _<_}
+use Prim.Native.Nat.{ℕ, _+_, _^_, _<_}
 use mathlib.Core.Path.{_≡_, _∙_}
 use native.Mathlib.Omega.{arith}
 use borrow.Author.Needs.{needs}
@@ -7,13 +7,13 @@ use lib.IntN.{ℤ, pos}
 use mir.Syntax.{w64}
 use mir.Val.{toZ}
 use mir.ValLaws.{toZ-pos}
-use Rattle.lines.specs.Rows.{putOne}
+use Rattle.lines.specs.Rows.{width, putOne}
 use Rattle.lines.specs.declared.Filling.{Filling}
 use Rattle.lines.proofs.rows.put_text.Statement.{statement}
 use Rattle.lines.proofs.rows.put_text.Tie as tie
 
 module _ (f g : Filling) (z : ℤ) (m : ℕ) (e : g ≡ putOne f z m) where
-  room : f .column < 9 → g .column < 10
+  room : f .column + 1 < width → g .column < width
   room h = rw e (omega arith)
 
 both : (f g r : Filling) (a l m : ℕ) → a < 2 ^ 63 → l < 2 ^ 63 → g ≡ putOne f (toZ w64 a) m → r ≡ putOne g (toZ w64 l) m → r ≡ putOne (putOne f (pos a) m) (pos l) m

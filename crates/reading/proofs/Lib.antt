@@ -1,0 +1,9 @@
+pub mod Rooms
+pub mod LineLaws
+pub mod EveryLine
+pub mod Sections
+pub mod WalkLaws
+pub mod ReplyLaws
+pub mod NameLaws
+pub mod RowWidths
+pub mod RowLaws

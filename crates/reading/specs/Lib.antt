@@ -1,0 +1,4 @@
+pub mod Judging
+pub mod Walks
+pub mod Names
+pub mod Replies

@@ -1,0 +1,109 @@
+// A whole file, checked or read into lent rows.
+use crate::Found;
+use crate::LIMIT;
+use crate::Reply;
+use crate::Walk;
+use crate::names;
+use crate::rows;
+use crate::walking;
+use lines::WIDTH;
+use records::states;
+ghost use mathlib.Core.Path.{_≡_};
+ghost use Prim.Native.Nat.{_^_, _≤_, _<_};
+ghost use lib.ListN.{length};
+ghost use Rattle.reading.specs.Walks.{limit};
+ghost use Rattle.reading.specs.Replies.{reply, countedBy, endedBy, survey, checkReply, readReply, readRows};
+
+// A refusal without a count.
+fn refusal(number: u64, line: u64) -> Reply
+    ensures { λ r. ⌜ r ≡ reply number line 0 ⌝ }
+{
+    Reply {
+        number: number,
+        line: line,
+        count: 0,
+    }
+}
+
+// A reply with one more line: a row counts.
+fn counted(r: Reply, line: u64, f: Found) -> Reply
+    requires { ⌜ r .count < 2 ^ 62 ⌝ }
+    ensures { λ q. ⌜ q ≡ countedBy r line f ⌝ }
+{
+    match f {
+        Found::Row => Reply {
+            number: 0,
+            line: 0,
+            count: r.count + 1,
+        },
+        Found::Nothing => r,
+        Found::Refused(n) => refusal(n, line),
+    }
+}
+
+// A reply at the end of the file.
+fn ended(r: Reply, w: Walk) -> Reply
+    ensures { λ q. ⌜ q ≡ endedBy r w ⌝ }
+{
+    let st = w.state;
+    if states::accepting(st) {
+        return r;
+    }
+    refusal(13, w.line)
+}
+
+// A file by all rules but size and names used twice.
+fn survey(file: &[u8]) -> Reply
+    requires { ⌜ length (now file) ≤ limit ⌝ }
+    ensures { λ r. ⌜ r ≡ survey (now (file .entry)) ⌝ }
+{
+    let mut w = walking::begin();
+    let mut at = 0;
+    let mut r = refusal(0, 0);
+    while at < file.len() {
+        let l = w.line;
+        let t = walking::turn(file, w);
+        let found = t.found;
+        r = counted(r, l, found);
+        if walking::stops(found) {
+            return r;
+        }
+        w = t.walk;
+        at = w.at;
+    }
+    ended(r, w)
+}
+
+// A file's reply: 0 with the number of its rows, or its first refusal.
+pub fn check(file: &[u8]) -> Reply
+    ensures { λ r. ⌜ r ≡ checkReply (now (file .entry)) ⌝ }
+{
+    if LIMIT < file.len() {
+        return refusal(1, 0);
+    }
+    let l = names::first_repeat(file);
+    if l != 0 {
+        return refusal(12, l);
+    }
+    survey(file)
+}
+
+// A file's rows from the front of the slice on, where they fit; the slice stays as it is on every refusal.
+pub fn read(file: &[u8], rows: &mut [i64]) -> Reply
+    ensures { λ r. ⌜ r ≡ readReply (now (file .entry)) (length (now (rows .entry))) ⌝ }
+    ensures { λ _. ⌜ now (rows .exit) ≡ readRows (now (file .entry)) (now (rows .entry)) ⌝ }
+{
+    let r = check(file);
+    if r.number != 0 {
+        return r;
+    }
+    if ((rows.len() / WIDTH) as u64) < r.count {
+        return Reply {
+            number: 2,
+            line: 0,
+            count: r.count,
+        };
+    }
+    rows::put_rows(file, rows);
+    r
+}
