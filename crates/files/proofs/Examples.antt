@@ -22,7 +22,9 @@ use Rattle.form.specs.Reading.{readField, readEach, readFields, lineAs, keyFrom
 use Rattle.form.specs.declared.Rules.the-variants.{Idf3}
 use Rattle.form.specs.declared.FileType.the-variants.{Library}
 use Rattle.records.specs.Marks.{shapeOf, namesAComponent}
-use Rattle.records.specs.Automaton.{start, accepting, mayOpen, advance, mayStand, dataKind, keyKind}
+use Rattle.records.specs.Stages.{mayOpen}
+use Rattle.records.specs.Places.{dataKind, keyKind}
+use Rattle.records.specs.Automaton.{start, accepting, advance, mayStand}
 use Rattle.records.specs.declared.Stage.the-variants.{Headed}
 use Rattle.records.specs.declared.State.the-variants.{Between}
 use Rattle.files.specs.Told.{saidAt, lineSays, Told, ended, broken, toldFrom}

@@ -29,7 +29,8 @@ use Rattle.form.specs.declared.Context.{Context}
 use Rattle.form.specs.declared.FieldType.{FieldType}
 use Rattle.lines.specs.LineKinds.{isProp}
 use Rattle.records.specs.Marks.{shapeOf, pointOf, typeIn, Named}
-use Rattle.records.specs.Automaton.{isRole, typeAt, standsIn, mayStand, moved, lineAt, dataKind, keyKind, advance, judge}
+use Rattle.records.specs.Places.{lineAt, dataKind, keyKind}
+use Rattle.records.specs.Automaton.{isRole, typeAt, standsIn, mayStand, moved, advance, judge}
 use Rattle.records.specs.declared.Phase.{Phase}
 use Rattle.records.specs.declared.Phase.the-variants.{AwaitTitle, AwaitName, HeaderFull, AwaitLead, InPoints, InProps, InList, AwaitPart, AwaitPosition}
 use Rattle.records.specs.declared.Stage.{Stage}

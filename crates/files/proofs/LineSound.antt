@@ -22,7 +22,8 @@ use Rattle.form.specs.declared.Keyword.{Keyword}
 use Rattle.form.specs.declared.Keyword.the-variants.{Opening, Closing, Unknown}
 use Rattle.lines.specs.LineKinds.{isProp}
 use Rattle.records.specs.Marks.{shapeOf, Named}
-use Rattle.records.specs.Automaton.{isRole, typeAt, mayStand, pointLine, hasProps, lineAt, kindBy, dataKind, keyKind, judge}
+use Rattle.records.specs.Places.{pointLine, hasProps, lineAt, kindBy, dataKind, keyKind}
+use Rattle.records.specs.Automaton.{isRole, typeAt, mayStand, judge}
 use Rattle.records.specs.declared.Phase.{Phase}
 use Rattle.records.specs.declared.Phase.the-variants.{AwaitTitle, AwaitName, HeaderFull, AwaitLead, InPoints, InProps, InList, AwaitPart, AwaitPosition}
 use Rattle.records.specs.declared.Stage.{Stage}

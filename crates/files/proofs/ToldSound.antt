@@ -11,10 +11,11 @@ use Rattle.form.specs.Fits.{under, wellFormed, WellFormed}
 use Rattle.form.specs.declared.Rules.{Rules}
 use Rattle.form.specs.declared.FileType.{FileType}
 use Rattle.records.specs.Marks.{shapeOf, manyLoops, pointOf, Named}
-use Rattle.records.specs.Loops.{loopAfter, complete}
-use Rattle.records.specs.Automaton.{start, mayOpen, startOf, isRole, fileOf, if-fit, afterPoint, onlyIf, atPhase, advance, accepting, through, run, judge}
+use Rattle.loops.specs.Loops.{loopAfter, complete}
+use Rattle.records.specs.Stages.{mayOpen, fileOf}
+use Rattle.records.specs.Automaton.{start, startOf, isRole, if-fit, afterPoint, onlyIf, atPhase, advance, accepting, through, run, judge}
 use Rattle.records.specs.declared.Stage.{Stage}
-use Rattle.records.specs.declared.LoopState.{LoopState}
+use Rattle.loops.specs.declared.LoopState.{LoopState}
 use Rattle.records.specs.declared.Phase.{Phase}
 use Rattle.records.specs.declared.Phase.the-variants.{AwaitTitle, AwaitName, HeaderFull, AwaitLead, InPoints, InProps, InList, AwaitPart, AwaitPosition}
 use Rattle.records.specs.declared.State.{State}

@@ -8,7 +8,7 @@ use Rattle.form.specs.Kinds.{Role}
 use Rattle.form.specs.Fits.{under, WellFormed}
 use Rattle.form.specs.declared.Rules.{Rules}
 use Rattle.form.specs.declared.FileType.{FileType}
-use Rattle.records.specs.declared.Place.{Place}
+use Rattle.loops.specs.declared.Place.{Place}
 use Rattle.permitted.specs.ListRules.{Return, last, further, Loop, circle, path, Loops, final, another, Points, numbered, single, Lines, no-line, line, Pairs, no-pair, pair, Body, led, points, listed, placed, Section, section, Sections, no-section, and-section, Header, header-of, header-of-library, Permitted, a-board, a-panel, a-library}
 use Rattle.files.specs.WholeRules.{titled}
 

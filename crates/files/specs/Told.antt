@@ -12,7 +12,8 @@ use Rattle.form.specs.Reading.{readFields, Line, free, bad, keyLine, dataLine, 
 use Rattle.form.specs.declared.Rules.{Rules}
 use Rattle.lines.specs.LineKinds.{isProp}
 use Rattle.records.specs.Marks.{Named}
-use Rattle.records.specs.Automaton.{isRole, refusalNumber, typeAt, mayStand, dataKind, keyKind, judge, noted}
+use Rattle.records.specs.Places.{dataKind, keyKind}
+use Rattle.records.specs.Automaton.{isRole, refusalNumber, typeAt, mayStand, judge, noted}
 use Rattle.records.specs.declared.State.{State}
 use Rattle.records.specs.declared.State.the-variants.{Between as between, Inside as inside}
 use Rattle.records.specs.declared.Outcome.{Outcome}

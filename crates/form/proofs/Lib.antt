@@ -1,4 +1,3 @@
 pub mod PaddedLaws
 pub mod NameLaws
 pub mod KindLaws
-pub mod FieldLaws

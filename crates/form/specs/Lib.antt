@@ -8,4 +8,3 @@ pub mod Fits
 pub mod Reading
 pub mod Padded
 pub mod Letters
-pub mod Told

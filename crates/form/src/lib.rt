@@ -1,5 +1,4 @@
 // The format as tables: sections, keywords, words, field types, the layout of each kind of line. Lookups take the rules of a version.
-pub mod fields;
 pub mod layouts;
 pub mod names;
 
@@ -64,14 +63,6 @@ pub enum Keyword {
 pub enum Found {
     At(u64),
     Nowhere,
-}
-
-// What a field reads as: a number, a word's place, bytes as they stand, or the number of a refusal.
-pub enum FieldReply {
-    Number(i64),
-    Word(u64),
-    Bytes,
-    Refused(u64),
 }
 
 // Some rows of a table, one after the other.

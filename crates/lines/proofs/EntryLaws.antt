@@ -19,11 +19,11 @@ use Rattle.text.proofs.Bounds.{Lies, Bounded, bounded}
 use Rattle.measure.proofs.SignLaws.{back}
 use Rattle.form.specs.Values.{Value, number, word, text, Reply, good, refused}
 use Rattle.form.specs.Reading.{readField}
-use Rattle.form.specs.Told.{told}
+use Rattle.fields.specs.Told.{told}
 use Rattle.form.specs.declared.Context.{Context}
 use Rattle.form.specs.declared.FieldType.{FieldType}
-use Rattle.form.specs.declared.FieldReply.{FieldReply}
-use Rattle.form.specs.declared.FieldReply.the-variants.{Number as NumberF, Word as WordF, Bytes as BytesF, Refused as RefusedF}
+use Rattle.fields.specs.declared.FieldReply.{FieldReply}
+use Rattle.fields.specs.declared.FieldReply.the-variants.{Number as NumberF, Word as WordF, Bytes as BytesF, Refused as RefusedF}
 use Rattle.lines.specs.Rows.{entryOf, entryAt}
 use Rattle.lines.specs.declared.Entry.the-variants.{Number, Word, Text, Refused}
 

@@ -1,8 +1,8 @@
 // The row of a line: its kind, then its fields in their order, a text as its start in the file and its length.
 use crate::Entry;
 use crate::Filling;
+use fields::FieldReply;
 use form::Context;
-use form::FieldReply;
 use form::FieldType;
 use text::FieldAnswer;
 ghost use mathlib.Core.Path.{_≡_};
@@ -26,7 +26,7 @@ fn next_entry(c: Context, t: FieldType, s: &[u8], at: usize) -> Entry
             next,
         } => {
             let from = at + start;
-            match form::fields::read_field(c, t, &s[from..from + len], quoted) {
+            match fields::read_field(c, t, &s[from..from + len], quoted) {
                 FieldReply::Number(z) => Entry::Number(z, at + next),
                 FieldReply::Word(n) => Entry::Word(n, at + next),
                 FieldReply::Bytes => Entry::Text(from, len, at + next),

@@ -5,6 +5,4 @@ pub mod NumberSpelling
 pub mod IntegerLaws
 pub mod IntegerSpelling
 pub mod DateLaws
-pub mod PrintLaws
-pub mod PrintSpelling
 pub mod Cases

@@ -4,7 +4,6 @@ pub mod Digits
 pub mod Numbers
 pub mod Integers
 pub mod Dates
-pub mod Printing
 pub mod NumberRules
 pub mod IntegerRules
 pub mod DateRules

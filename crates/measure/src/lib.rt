@@ -1,5 +1,4 @@
 // Numbers: lengths, angles and integers, kept apart by kind. `read` takes them from a field's bytes, `print` writes them back.
-pub mod print;
 pub mod read;
 
 ghost use mathlib.Core.Path.{_≡_};

@@ -9,8 +9,8 @@ use lib.Dec.{eqb}
 use lib.IntN.{ℤ, pos, negsuc, sucℤ}
 use borrow.Author.Tests.{eqb-true, eqb-false, eq-eqb}
 use Rattle.form.specs.Compare.{sameBytes}
-use Rattle.records.specs.Loops.{eqZ, samePlace}
-use Rattle.records.specs.declared.Place.{Place}
+use Rattle.loops.specs.Loops.{eqZ, samePlace}
+use Rattle.loops.specs.declared.Place.{Place}
 
 pub both : (a b : Bool) → (a && b) ≡ true → (a ≡ true) × (b ≡ true)
 both true b h = (refl, h)

@@ -13,12 +13,14 @@ use Rattle.form.specs.Fits.{under, wellFormed}
 use Rattle.form.specs.declared.Rules.{Rules}
 use Rattle.form.specs.declared.FileType.{FileType}
 use Rattle.records.specs.Marks.{shapeOf, manyLoops, pointOf, typeIn}
-use Rattle.records.specs.Loops.{loopAfter, complete}
-use Rattle.records.specs.Automaton.{isRole, fileOf, if-fit, afterTitle, afterPoint, onlyIf, atPhase, advance, mayStand, movedIn, moved, pointLine, hasProps, lineAt}
-use Rattle.records.specs.declared.Point.{Point}
+use Rattle.loops.specs.Loops.{loopAfter, complete}
+use Rattle.records.specs.Stages.{fileOf}
+use Rattle.records.specs.Places.{pointLine, hasProps, lineAt}
+use Rattle.records.specs.Automaton.{isRole, if-fit, afterTitle, afterPoint, onlyIf, atPhase, advance, mayStand, movedIn, moved}
+use Rattle.loops.specs.declared.Point.{Point}
 use Rattle.records.specs.declared.Stage.{Stage}
-use Rattle.records.specs.declared.LoopState.{LoopState}
-use Rattle.records.specs.declared.LoopState.the-variants.{NoPoint as noPoint}
+use Rattle.loops.specs.declared.LoopState.{LoopState}
+use Rattle.loops.specs.declared.LoopState.the-variants.{NoPoint as noPoint}
 use Rattle.records.specs.declared.Phase.{Phase}
 use Rattle.records.specs.declared.Phase.the-variants.{AwaitTitle as awaitTitle, AwaitName as awaitName, HeaderFull as headerFull, AwaitLead as awaitLead, InPoints as inPoints, InProps as inProps, InList as inList, AwaitPart as awaitPart, AwaitPosition as awaitPosition}
 use Rattle.records.specs.declared.State.{State}

@@ -10,13 +10,15 @@ use Rattle.form.specs.Values.{Rec}
 use Rattle.form.specs.Kinds.{Role, opening, point}
 use Rattle.form.specs.declared.Rules.{Rules}
 use Rattle.form.specs.declared.FileType.{FileType}
-use Rattle.records.specs.Marks.{shapeOf, manyLoops, labelOf, placeOf, angleOf, pointOf, wholeTurn}
-use Rattle.records.specs.Loops.{eqZ, samePlace, goesOn, reached, loopAfter, complete}
-use Rattle.records.specs.Automaton.{mayOpen, startOf, fileOf, afterPoint, atPhase, advance, accepts}
-use Rattle.records.specs.declared.Place.{Place}
+use Rattle.records.specs.Marks.{shapeOf, manyLoops, labelOf, placeOf, angleOf, pointOf}
+use Rattle.loops.specs.Loops.{wholeTurn}
+use Rattle.loops.specs.Loops.{eqZ, samePlace, goesOn, reached, loopAfter, complete}
+use Rattle.records.specs.Stages.{mayOpen, fileOf}
+use Rattle.records.specs.Automaton.{startOf, afterPoint, atPhase, advance, accepts}
+use Rattle.loops.specs.declared.Place.{Place}
 use Rattle.records.specs.declared.Stage.{Stage}
-use Rattle.records.specs.declared.LoopState.{LoopState}
-use Rattle.records.specs.declared.LoopState.the-variants.{NoPoint as noPoint, OnePoint as onePoint, Away as away, Back as back, Round as round}
+use Rattle.loops.specs.declared.LoopState.{LoopState}
+use Rattle.loops.specs.declared.LoopState.the-variants.{NoPoint as noPoint, OnePoint as onePoint, Away as away, Back as back, Round as round}
 use Rattle.records.specs.declared.Phase.{Phase}
 use Rattle.records.specs.declared.Phase.the-variants.{InPoints as inPoints}
 use Rattle.records.specs.declared.State.{State}

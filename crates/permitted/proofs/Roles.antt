@@ -10,7 +10,8 @@ use Rattle.form.specs.Sections.{Section as Sect, Shape, header, outline, compon
 use Rattle.form.specs.Kinds.{sectionOf, lineOf, Role, opening, closing, title, name, lead, point, prop, entry, part, position, unknown, dataRole, roleIn, roleBy, roleOf}
 use Rattle.form.specs.declared.Rules.{Rules}
 use Rattle.records.specs.Marks.{shapeBy, shapeOf}
-use Rattle.records.specs.Automaton.{startOf, roleNumber, isRole, pointLine}
+use Rattle.records.specs.Places.{pointLine}
+use Rattle.records.specs.Automaton.{startOf, roleNumber, isRole}
 use Rattle.records.specs.declared.Phase.the-variants.{AwaitLead as awaitLead}
 use Rattle.permitted.specs.ListRules.{leads}
 

@@ -25,9 +25,10 @@ use Rattle.form.specs.declared.Limit.the-variants.{Length, NotBelow, Above, Inc
 use Rattle.form.specs.declared.FieldType.{FieldType}
 use Rattle.form.specs.declared.FieldType.the-variants.{Text, Reference, Date, Integer, Number, Word}
 use Rattle.records.specs.Marks.{shapeOf, labelOf, placeOf, angleOf, namesAComponent}
-use Rattle.records.specs.Loops.{eqZ}
-use Rattle.records.specs.Automaton.{isRole, pointLine}
-use Rattle.records.specs.declared.Place.{Place}
+use Rattle.loops.specs.Loops.{eqZ}
+use Rattle.records.specs.Places.{pointLine}
+use Rattle.records.specs.Automaton.{isRole}
+use Rattle.loops.specs.declared.Place.{Place}
 use Rattle.permitted.specs.ListRules.{Line}
 use Rattle.permitted.proofs.Basics.{both, eqZ-true, eqZ-false, bytes-self}
 use Rattle.permitted.proofs.Roles.{isSection, hasPoints, point-line}

@@ -15,12 +15,13 @@ use Rattle.form.specs.declared.Rules.{Rules}
 use Rattle.form.specs.declared.FileType.{FileType}
 use Rattle.form.specs.declared.FileType.the-variants.{Board as board, Panel as panel, Library as library}
 use Rattle.records.specs.Marks.{shapeOf, manyLoops, labelOf, placeOf, angleOf, pointOf, typeIn}
-use Rattle.records.specs.Loops.{eqZ, samePlace, begins, firstLabel, goesOn, closes, reached, loopAfter, complete}
-use Rattle.records.specs.Automaton.{mayOpen, startOf, isRole, fileOf, if-fit, afterTitle, afterPoint, onlyIf, atPhase, advance}
-use Rattle.records.specs.declared.Place.{Place}
+use Rattle.loops.specs.Loops.{eqZ, samePlace, begins, firstLabel, goesOn, closes, reached, loopAfter, complete}
+use Rattle.records.specs.Stages.{mayOpen, fileOf}
+use Rattle.records.specs.Automaton.{startOf, isRole, if-fit, afterTitle, afterPoint, onlyIf, atPhase, advance}
+use Rattle.loops.specs.declared.Place.{Place}
 use Rattle.records.specs.declared.Stage.{Stage}
-use Rattle.records.specs.declared.LoopState.{LoopState}
-use Rattle.records.specs.declared.LoopState.the-variants.{NoPoint as noPoint, OnePoint as onePoint, Away as away, Back as back, Round as round}
+use Rattle.loops.specs.declared.LoopState.{LoopState}
+use Rattle.loops.specs.declared.LoopState.the-variants.{NoPoint as noPoint, OnePoint as onePoint, Away as away, Back as back, Round as round}
 use Rattle.records.specs.declared.Phase.{Phase}
 use Rattle.records.specs.declared.Phase.the-variants.{AwaitTitle as awaitTitle, AwaitName as awaitName, HeaderFull as headerFull, AwaitLead as awaitLead, InPoints as inPoints, InProps as inProps, InList as inList, AwaitPart as awaitPart, AwaitPosition as awaitPosition}
 use Rattle.records.specs.declared.State.{State}

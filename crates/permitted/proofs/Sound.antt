@@ -15,7 +15,9 @@ use Rattle.form.specs.declared.Rules.{Rules}
 use Rattle.form.specs.declared.FileType.{FileType}
 use Rattle.form.specs.declared.FileType.the-variants.{Board as board, Panel as panel, Library as library}
 use Rattle.records.specs.Marks.{shapeOf, isMiddle, isComponent, typeIn}
-use Rattle.records.specs.Automaton.{start, mayOpen, after, startOf, isRole, fileOf, if-fit, afterTitle, advance, accepting, hasProps, accepted, accepts}
+use Rattle.records.specs.Stages.{mayOpen, after, fileOf}
+use Rattle.records.specs.Places.{hasProps}
+use Rattle.records.specs.Automaton.{start, startOf, isRole, if-fit, afterTitle, advance, accepting, accepted, accepts}
 use Rattle.records.specs.declared.Stage.{Stage}
 use Rattle.records.specs.declared.Stage.the-variants.{Nothing as nothing, Headed as headed, Middle as middle, Finished as finished}
 use Rattle.records.specs.declared.Phase.the-variants.{AwaitTitle as awaitTitle}

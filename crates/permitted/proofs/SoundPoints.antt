@@ -10,11 +10,12 @@ use Rattle.form.specs.Values.{Rec}
 use Rattle.form.specs.Kinds.{point}
 use Rattle.form.specs.declared.Rules.{Rules}
 use Rattle.form.specs.declared.FileType.{FileType}
-use Rattle.records.specs.Marks.{manyLoops, labelOf, placeOf, angleOf, pointOf, wholeTurn}
-use Rattle.records.specs.Loops.{eqZ, samePlace, begins, firstLabel, goesOn, closes, reached, loopAfter, complete}
-use Rattle.records.specs.declared.Place.{Place}
-use Rattle.records.specs.declared.LoopState.{LoopState}
-use Rattle.records.specs.declared.LoopState.the-variants.{NoPoint as noPoint, OnePoint as onePoint, Away as away, Back as back, Round as round}
+use Rattle.records.specs.Marks.{manyLoops, labelOf, placeOf, angleOf, pointOf}
+use Rattle.loops.specs.Loops.{wholeTurn}
+use Rattle.loops.specs.Loops.{eqZ, samePlace, begins, firstLabel, goesOn, closes, reached, loopAfter, complete}
+use Rattle.loops.specs.declared.Place.{Place}
+use Rattle.loops.specs.declared.LoopState.{LoopState}
+use Rattle.loops.specs.declared.LoopState.the-variants.{NoPoint as noPoint, OnePoint as onePoint, Away as away, Back as back, Round as round}
 use Rattle.permitted.specs.ListRules.{Line, PointLine, Step, Return, last, further, Loop, circle, path, Loops, final, another, Points, numbered, single}
 use Rattle.permitted.proofs.Basics.{both, either, other, was-false, not-both, eqZ-true, eqZ-false, same-true, same-false}
 

@@ -15,14 +15,17 @@ use Rattle.form.specs.Fits.{textByte}
 use Rattle.form.specs.declared.Rules.{Rules}
 use Rattle.form.specs.declared.FileType.{FileType}
 use Rattle.form.specs.declared.FileType.the-variants.{Board as board, Panel as panel, Library as library}
-use Rattle.records.specs.Marks.{shapeOf, manyLoops, labelOf, placeOf, angleOf, pointOf, wholeTurn, typeIn, namesAComponent, nameIn}
-use Rattle.records.specs.Loops.{eqZ, reached, loopAfter, complete}
-use Rattle.records.specs.Automaton.{mayOpen, after, startOf, isRole, fileOf, afterTitle, advance, accepting, pointLine, accepts}
-use Rattle.records.specs.declared.Place.{Place}
+use Rattle.records.specs.Marks.{shapeOf, manyLoops, labelOf, placeOf, angleOf, pointOf, typeIn, namesAComponent, nameIn}
+use Rattle.loops.specs.Loops.{wholeTurn}
+use Rattle.loops.specs.Loops.{eqZ, reached, loopAfter, complete}
+use Rattle.records.specs.Stages.{mayOpen, after, fileOf}
+use Rattle.records.specs.Places.{pointLine}
+use Rattle.records.specs.Automaton.{startOf, isRole, afterTitle, advance, accepting, accepts}
+use Rattle.loops.specs.declared.Place.{Place}
 use Rattle.records.specs.declared.Stage.{Stage}
 use Rattle.records.specs.declared.Stage.the-variants.{Nothing as nothing, Headed as headed, Middle as middle, Finished as finished}
-use Rattle.records.specs.declared.LoopState.{LoopState}
-use Rattle.records.specs.declared.LoopState.the-variants.{NoPoint as noPoint, OnePoint as onePoint, Away as away, Back as back}
+use Rattle.loops.specs.declared.LoopState.{LoopState}
+use Rattle.loops.specs.declared.LoopState.the-variants.{NoPoint as noPoint, OnePoint as onePoint, Away as away, Back as back}
 use Rattle.records.specs.declared.Phase.{Phase}
 use Rattle.records.specs.declared.Phase.the-variants.{AwaitTitle as awaitTitle, AwaitName as awaitName, HeaderFull as headerFull, AwaitLead as awaitLead, InPoints as inPoints, InProps as inProps, InList as inList, AwaitPart as awaitPart, AwaitPosition as awaitPosition}
 use Rattle.records.specs.declared.State.{State}

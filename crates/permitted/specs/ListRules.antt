@@ -13,8 +13,9 @@ use Rattle.form.specs.Fits.{under, WellFormed}
 use Rattle.form.specs.declared.Rules.{Rules}
 use Rattle.form.specs.declared.FileType.{FileType}
 use Rattle.form.specs.declared.FileType.the-variants.{Board as board, Panel as panel, Library as library}
-use Rattle.records.specs.Marks.{shapeOf, manyLoops, isMiddle, isComponent, isLibrary, labelOf, placeOf, angleOf, wholeTurn, typeIn, Named, namesAComponent, nameIn}
-use Rattle.records.specs.declared.Place.{Place}
+use Rattle.records.specs.Marks.{shapeOf, manyLoops, isMiddle, isComponent, isLibrary, labelOf, placeOf, angleOf, typeIn, Named, namesAComponent, nameIn}
+use Rattle.loops.specs.Loops.{wholeTurn}
+use Rattle.loops.specs.declared.Place.{Place}
 
 -- outlines and components begin with a leading line
 abbrev pub leads : Shape → Bool

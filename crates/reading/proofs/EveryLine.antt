@@ -20,7 +20,8 @@ use Rattle.lines.specs.LineKinds.{behind, kindBy, kindOf}
 use Rattle.lines.specs.Rows.{filled}
 use Rattle.lines.specs.declared.LineKind.{LineKind}
 use Rattle.lines.specs.declared.LineKind.the-variants.{Free, Bad, Key, Data}
-use Rattle.records.specs.Automaton.{roleNumber, mayStand, keyKind, dataKind, typeAt}
+use Rattle.records.specs.Places.{keyKind, dataKind}
+use Rattle.records.specs.Automaton.{roleNumber, mayStand, typeAt}
 use Rattle.records.specs.declared.State.{State}
 use Rattle.reading.specs.declared.Judged.{Judged}
 use Rattle.reading.specs.Judging.{refusedBy, freeBy, filledBy, ofKind, dataBy, judgedBy, judged}

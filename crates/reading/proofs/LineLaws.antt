@@ -21,8 +21,8 @@ use Rattle.lines.specs.Rows.{filled}
 use Rattle.lines.specs.declared.LineKind.{LineKind}
 use Rattle.lines.specs.declared.LineKind.the-variants.{Key}
 use Rattle.lines.specs.declared.Filling.{Filling}
-use Rattle.records.specs.Loops.{eqZ}
-use Rattle.records.specs.declared.Point.{Point}
+use Rattle.loops.specs.Loops.{eqZ}
+use Rattle.loops.specs.declared.Point.{Point}
 use Rattle.records.specs.declared.Stage.{Stage}
 use Rattle.records.specs.declared.Phase.{Phase}
 use Rattle.records.specs.declared.State.{State}
@@ -30,8 +30,9 @@ use Rattle.records.specs.declared.State.the-variants.{Between, Inside}
 use Rattle.records.specs.declared.Reason.{Reason}
 use Rattle.records.specs.declared.Outcome.{Outcome}
 use Rattle.records.specs.declared.Outcome.the-variants.{Next, Refused as Stops}
-use Rattle.records.specs.Automaton.{refusalNumber, typeAt, mayStand, stepped, dataKind, keyKind, roleNumber}
-use Rattle.records.proofs.LoopLaws.{same-as}
+use Rattle.records.specs.Places.{dataKind, keyKind}
+use Rattle.records.specs.Automaton.{refusalNumber, typeAt, mayStand, stepped, roleNumber}
+use Rattle.loops.proofs.LoopLaws.{same-as}
 use Rattle.reading.specs.declared.Found.the-variants.{Row, Nothing}
 use Rattle.reading.specs.declared.Judged.{Judged}
 use Rattle.reading.specs.Judging.{noRow, refusedBy, freeBy, columnAt, pointIn, typeInRow, movedRow, filledBy, ofKind, dataBy, judgedBy, judged}

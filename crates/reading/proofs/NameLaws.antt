@@ -15,8 +15,8 @@ use lib.ListN.{length, take, drop, length-drop}
 use lib.Seq.{take-all}
 use Rattle.text.proofs.Lists.{at-end}
 use Rattle.form.specs.Compare.{sameBytes}
-use Rattle.records.specs.Loops.{eqZ}
-use Rattle.records.proofs.LoopLaws.{same-as}
+use Rattle.loops.specs.Loops.{eqZ}
+use Rattle.loops.proofs.LoopLaws.{same-as}
 use Rattle.reading.specs.declared.Found.{Found}
 use Rattle.reading.specs.declared.Found.the-variants.{Row, Nothing, Refused}
 use Rattle.reading.specs.declared.Walk.{Walk}

@@ -24,7 +24,8 @@ use Rattle.form.specs.declared.Keyword.{Keyword}
 use Rattle.lines.specs.LineKinds.{behind, kindBy, kindOf}
 use Rattle.lines.specs.declared.LineKind.{LineKind}
 use Rattle.lines.specs.declared.LineKind.the-variants.{Free, Bad, Key, Data}
-use Rattle.records.specs.Automaton.{keySection, mayStand, standsBy}
+use Rattle.records.specs.Places.{keySection}
+use Rattle.records.specs.Automaton.{mayStand, standsBy}
 use Rattle.records.specs.declared.Phase.{Phase}
 use Rattle.records.specs.declared.Phase.the-variants.{AwaitTitle, AwaitName, HeaderFull, AwaitLead, InPoints, InProps, InList, AwaitPart, AwaitPosition}
 use Rattle.records.specs.declared.State.{State}

@@ -15,12 +15,13 @@ use Rattle.form.specs.declared.Rules.the-variants.{Idf3}
 use Rattle.form.specs.declared.FileType.{FileType}
 use Rattle.lines.specs.Rows.{filled}
 use Rattle.lines.specs.declared.Filling.{Filling}
-use Rattle.records.specs.Loops.{loopAfter, complete}
+use Rattle.loops.specs.Loops.{loopAfter, complete}
 use Rattle.records.specs.Marks.{manyLoops}
-use Rattle.records.specs.Automaton.{sectionIn, roleNumber, mayStand, moved, movedBy, stepped, afterPoint, onlyIf, onOrOut, typeAt}
-use Rattle.records.specs.declared.Point.{Point}
+use Rattle.records.specs.Places.{sectionIn}
+use Rattle.records.specs.Automaton.{roleNumber, mayStand, moved, movedBy, stepped, afterPoint, onlyIf, onOrOut, typeAt}
+use Rattle.loops.specs.declared.Point.{Point}
 use Rattle.records.specs.declared.Stage.{Stage}
-use Rattle.records.specs.declared.LoopState.{LoopState}
+use Rattle.loops.specs.declared.LoopState.{LoopState}
 use Rattle.records.specs.declared.Phase.{Phase}
 use Rattle.records.specs.declared.Phase.the-variants.{AwaitTitle, AwaitName, HeaderFull, AwaitLead, InPoints, InProps, InList, AwaitPart, AwaitPosition}
 use Rattle.records.specs.declared.State.{State}

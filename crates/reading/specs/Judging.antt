@@ -16,9 +16,10 @@ use Rattle.lines.specs.Rows.{width, filled}
 use Rattle.lines.specs.declared.LineKind.{LineKind}
 use Rattle.lines.specs.declared.LineKind.the-variants.{Free, Bad, Key, Data}
 use Rattle.lines.specs.declared.Filling.{Filling}
-use Rattle.records.specs.Loops.{eqZ}
-use Rattle.records.specs.Automaton.{isRole, refusalNumber, typeAt, mayStand, stepped, dataKind, keyKind}
-use Rattle.records.specs.declared.Point.{Point}
+use Rattle.loops.specs.Loops.{eqZ}
+use Rattle.records.specs.Places.{dataKind, keyKind}
+use Rattle.records.specs.Automaton.{isRole, refusalNumber, typeAt, mayStand, stepped}
+use Rattle.loops.specs.declared.Point.{Point}
 use Rattle.records.specs.declared.State.{State}
 use Rattle.records.specs.declared.State.the-variants.{Between, Inside}
 use Rattle.records.specs.declared.Outcome.{Outcome}

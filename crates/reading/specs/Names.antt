@@ -6,7 +6,7 @@ use lib.Dec.{ltb}
 use lib.IntN.{ℤ, pos, natAbs}
 use lib.ListN.{take, drop}
 use Rattle.form.specs.Compare.{sameBytes}
-use Rattle.records.specs.Loops.{eqZ}
+use Rattle.loops.specs.Loops.{eqZ}
 use Rattle.reading.specs.declared.Turn.{Turn}
 use Rattle.reading.specs.Judging.{columnAt}
 use Rattle.reading.specs.Walks.{isRow, Trace, done, stop, skip, row, traceOf}

@@ -7,7 +7,8 @@ use lib.IntN.{ℤ}
 use lib.ListN.{length, take, drop}
 use Rattle.text.specs.Lines.{lineEnd}
 use Rattle.form.specs.declared.Rules.the-variants.{Idf3}
-use Rattle.records.specs.Automaton.{start, sectionIn}
+use Rattle.records.specs.Places.{sectionIn}
+use Rattle.records.specs.Automaton.{start}
 use Rattle.reading.specs.declared.Found.{Found}
 use Rattle.reading.specs.declared.Found.the-variants.{Row, Nothing, Refused}
 use Rattle.reading.specs.declared.Judged.{Judged}

@@ -7,17 +7,17 @@ use form::Rules;
 use lines::Filling;
 use lines::LineKind;
 use lines::WIDTH;
+use loops::Point;
+use loops::same;
 use measure::Angle;
 use measure::Length;
 use records::Outcome;
-use records::Point;
 use records::State;
-use records::loops::same;
 use records::states;
 ghost use mathlib.Core.Path.{_≡_};
 ghost use Prim.Native.Nat.{_+_, _^_, _≤_, _<_};
 ghost use lib.ListN.{length, take};
-ghost use Rattle.records.specs.Automaton.{sectionIn};
+ghost use Rattle.records.specs.Places.{sectionIn};
 ghost use Rattle.reading.specs.Judging.{refusedBy, freeBy, pointIn, typeInRow, movedRow, filledBy, ofKind, dataBy, judged};
 
 // A refused line leaves the state as it is.

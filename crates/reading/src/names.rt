@@ -2,7 +2,7 @@
 use crate::Turn;
 use crate::walking;
 use lines::WIDTH;
-use records::loops::same;
+use loops::same;
 ghost use mathlib.Core.Path.{_≡_};
 ghost use Prim.Native.Nat.{_+_, _≤_, min};
 ghost use lib.ListN.{length, take, drop};
@@ -22,7 +22,7 @@ fn same_parts(file: &[u8], a: usize, n: usize, b: usize, m: usize) -> bool
     requires { ⌜ (a + n ≤ length (now file)) × (b + m ≤ length (now file)) ⌝ }
     ensures { λ r. ⌜ r ≡ sameBytes (take n (drop a (now (file .entry)))) (take m (drop b (now (file .entry)))) ⌝ }
 {
-    form::fields::same(&file[a..a + n], &file[b..b + m])
+    fields::same(&file[a..a + n], &file[b..b + m])
 }
 
 // Whether two texts of a file are the same, each by its start and length; what lies past the file's end is left off.

@@ -16,9 +16,11 @@ use Rattle.form.specs.Layouts.{layoutOf}
 use Rattle.form.specs.Fits.{within, barred, goodText, isEmpty, meaning, fits, fitsAll, wellFormed}
 use Rattle.form.specs.declared.Rules.the-variants.{Idf3}
 use Rattle.form.specs.declared.FileType.the-variants.{Board as board, Library as library}
-use Rattle.records.specs.Marks.{shapeOf, manyLoops, isMiddle, wholeTurn, namesAComponent}
-use Rattle.records.specs.Loops.{eqZ, loopAfter}
-use Rattle.records.specs.Automaton.{start, mayOpen, after, advance, accepts, Ran, through, stopped, run}
+use Rattle.records.specs.Marks.{shapeOf, manyLoops, isMiddle, namesAComponent}
+use Rattle.loops.specs.Loops.{wholeTurn}
+use Rattle.loops.specs.Loops.{eqZ, loopAfter}
+use Rattle.records.specs.Stages.{mayOpen, after}
+use Rattle.records.specs.Automaton.{start, advance, accepts, Ran, through, stopped, run}
 use Rattle.records.specs.declared.Stage.the-variants.{Nothing as nothing, Headed as headed, Middle as middle, Finished as finished}
 use Rattle.records.specs.declared.State.the-variants.{Between as between}
 use Rattle.records.specs.declared.Reason.the-variants.{Misplaced as misplaced, Unfit as unfit, BadLoop as badLoop, Repeated as repeated}

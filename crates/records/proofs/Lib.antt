@@ -1,4 +1,3 @@
-pub mod LoopLaws
 pub mod StateLaws
 pub mod PlaceLaws
 pub mod Steps

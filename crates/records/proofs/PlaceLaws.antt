@@ -17,10 +17,10 @@ use Rattle.form.specs.declared.Keyword.the-variants.{Opening, Closing, Unknown}
 use Rattle.form.specs.declared.Rules.{Rules}
 use Rattle.form.specs.declared.Rules.the-variants.{Idf3}
 use Rattle.records.specs.Marks.{shapeOf}
-use Rattle.records.specs.Answers.{lineNumber}
-use Rattle.records.specs.Automaton.{pointLine, hasProps, lineAt, sectionIn, kindBy, dataKind, keySection, keyKind}
+use Rattle.records.specs.Places.{lineNumber}
+use Rattle.records.specs.Places.{pointLine, hasProps, lineAt, sectionIn, kindBy, dataKind, keySection, keyKind}
 use Rattle.records.specs.declared.Stage.{Stage}
-use Rattle.records.specs.declared.LoopState.{LoopState}
+use Rattle.loops.specs.declared.LoopState.{LoopState}
 use Rattle.records.specs.declared.Phase.{Phase}
 use Rattle.records.specs.declared.Phase.the-variants.{AwaitTitle, AwaitName, HeaderFull, AwaitLead, InPoints, InProps, InList, AwaitPart, AwaitPosition}
 use Rattle.records.specs.declared.State.{State}

@@ -18,17 +18,18 @@ use Rattle.form.specs.declared.Rules.{Rules}
 use Rattle.form.specs.declared.Rules.the-variants.{Idf3}
 use Rattle.form.specs.declared.FileType.{FileType}
 use Rattle.records.specs.Marks.{shapeOf, isMiddle, manyLoops}
-use Rattle.records.specs.Loops.{loopAfter, complete}
+use Rattle.loops.specs.Loops.{loopAfter, complete}
 use Rattle.records.specs.Roles.{roleTable}
-use Rattle.records.specs.Answers.{looped}
-use Rattle.records.specs.Automaton.{mayOpen, afterHeaded, after, startOf, roleNumber, afterTitle, afterPoint, onOrOut, standsBy, mayStand, amongPoints, movedBy, moved, stepped, typeAt}
-use Rattle.records.specs.declared.Point.{Point}
+use Rattle.loops.specs.Answers.{looped}
+use Rattle.records.specs.Stages.{mayOpen, afterHeaded, after}
+use Rattle.records.specs.Automaton.{startOf, roleNumber, afterTitle, afterPoint, onOrOut, standsBy, mayStand, amongPoints, movedBy, moved, stepped, typeAt}
+use Rattle.loops.specs.declared.Point.{Point}
 use Rattle.records.specs.declared.Stage.{Stage}
 use Rattle.records.specs.declared.Stage.the-variants.{Headed, Middle, Finished}
-use Rattle.records.specs.declared.LoopState.{LoopState}
-use Rattle.records.specs.declared.LoopState.the-variants.{NoPoint}
-use Rattle.records.specs.declared.LoopAnswer.{LoopAnswer}
-use Rattle.records.specs.declared.LoopAnswer.the-variants.{Onward, Broken}
+use Rattle.loops.specs.declared.LoopState.{LoopState}
+use Rattle.loops.specs.declared.LoopState.the-variants.{NoPoint}
+use Rattle.loops.specs.declared.LoopAnswer.{LoopAnswer}
+use Rattle.loops.specs.declared.LoopAnswer.the-variants.{Onward, Broken}
 use Rattle.records.specs.declared.Phase.{Phase}
 use Rattle.records.specs.declared.Phase.the-variants.{AwaitTitle, AwaitName, HeaderFull, AwaitLead, InPoints, InProps, InList, AwaitPart, AwaitPosition}
 use Rattle.records.specs.declared.State.{State}

@@ -9,9 +9,10 @@ use Rattle.form.specs.Fits.{under, wellFormed}
 use Rattle.form.specs.declared.Rules.{Rules}
 use Rattle.form.specs.declared.FileType.{FileType}
 use Rattle.records.specs.Marks.{pointOf, typeIn}
-use Rattle.records.specs.Loops.{complete}
-use Rattle.records.specs.Automaton.{isRole, fileOf, if-fit, onlyIf, atPhase, advance, typeAt, standsIn, mayStand, movedIn, moved, stepped}
-use Rattle.records.specs.declared.Point.{Point}
+use Rattle.loops.specs.Loops.{complete}
+use Rattle.records.specs.Stages.{fileOf}
+use Rattle.records.specs.Automaton.{isRole, if-fit, onlyIf, atPhase, advance, typeAt, standsIn, mayStand, movedIn, moved, stepped}
+use Rattle.loops.specs.declared.Point.{Point}
 use Rattle.records.specs.declared.Stage.{Stage}
 use Rattle.records.specs.declared.Phase.{Phase}
 use Rattle.records.specs.declared.Phase.the-variants.{AwaitTitle as awaitTitle, AwaitName as awaitName, HeaderFull as headerFull, AwaitLead as awaitLead, InPoints as inPoints, InProps as inProps, InList as inList, AwaitPart as awaitPart, AwaitPosition as awaitPosition}

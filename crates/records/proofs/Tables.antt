@@ -11,14 +11,16 @@ use Rattle.form.specs.declared.Keyword.the-variants.{Opening, Closing, Unknown}
 use Rattle.form.specs.declared.Rules.the-variants.{Idf3}
 use Rattle.form.specs.declared.FileType.the-variants.{Board as board, Panel as panel, Library as library}
 use Rattle.records.specs.Marks.{shapeOf, manyLoops, isMiddle}
-use Rattle.records.specs.Loops.{eqZ, loopAfter}
-use Rattle.records.specs.Automaton.{mayOpen, after, mayEnd, startOf, standsBy, movedBy, mayStand, dataKind, keyKind}
-use Rattle.records.specs.declared.Place.{Place}
-use Rattle.records.specs.declared.Point.{Point}
+use Rattle.loops.specs.Loops.{eqZ, loopAfter}
+use Rattle.records.specs.Stages.{mayOpen, after, mayEnd}
+use Rattle.records.specs.Places.{dataKind, keyKind}
+use Rattle.records.specs.Automaton.{startOf, standsBy, movedBy, mayStand}
+use Rattle.loops.specs.declared.Place.{Place}
+use Rattle.loops.specs.declared.Point.{Point}
 use Rattle.records.specs.declared.Stage.{Stage}
 use Rattle.records.specs.declared.Stage.the-variants.{Nothing as nothing, Headed as headed, Middle as middle, Finished as finished}
-use Rattle.records.specs.declared.LoopState.{LoopState}
-use Rattle.records.specs.declared.LoopState.the-variants.{NoPoint as noPoint, OnePoint as onePoint, Away as away, Back as back, Round as round}
+use Rattle.loops.specs.declared.LoopState.{LoopState}
+use Rattle.loops.specs.declared.LoopState.the-variants.{NoPoint as noPoint, OnePoint as onePoint, Away as away, Back as back, Round as round}
 use Rattle.records.specs.declared.Phase.{Phase}
 use Rattle.records.specs.declared.Phase.the-variants.{AwaitTitle as awaitTitle, AwaitName as awaitName, HeaderFull as headerFull, AwaitLead as awaitLead, InPoints as inPoints, InProps as inProps, InList as inList, AwaitPart as awaitPart, AwaitPosition as awaitPosition}
 use Rattle.records.specs.declared.State.the-variants.{Between as between, Inside as inside}

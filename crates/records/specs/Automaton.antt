@@ -2,25 +2,23 @@
 use Prim.Native.Nat.{ℕ, suc}
 use mathlib.Core.List.{List, [], _∷_}
 use mathlib.Core.Option.{Option, none, some}
-use mathlib.Core.Bool.{Bool, true, false, cond, not, _&&_, _||_}
+use mathlib.Core.Bool.{Bool, false, cond, not, _&&_, _||_}
 use lib.Dec.{eqb}
 use Rattle.form.specs.Values.{Rec}
 use Rattle.form.specs.Compare.{sameBytes}
 use Rattle.form.specs.Sections.{Shape, header, outline, component, keepout, listing, placements}
-use Rattle.form.specs.Kinds.{kindAt, sectionOf, Role, opening, closing, title, name, lead, point, prop, entry, part, position, unknown, roleOf}
+use Rattle.form.specs.Kinds.{sectionOf, Role, opening, closing, title, name, lead, point, prop, entry, part, position, unknown, roleOf}
 use Rattle.form.specs.Fits.{under, wellFormed}
 use Rattle.form.specs.declared.Rules.{Rules}
-use Rattle.form.specs.declared.Keyword.{Keyword}
-use Rattle.form.specs.declared.Keyword.the-variants.{Opening, Closing, Unknown}
 use Rattle.form.specs.declared.FileType.{FileType}
 use Rattle.form.specs.declared.FileType.the-variants.{Board as board, Panel as panel, Library as library}
-use Rattle.records.specs.Marks.{shapeOf, manyLoops, isMiddle, isComponent, pointOf, typeIn, Named, namesAComponent, nameIn}
-use Rattle.records.specs.Loops.{loopAfter, complete}
-use Rattle.records.specs.declared.Point.{Point}
+use Rattle.records.specs.Marks.{shapeOf, manyLoops, pointOf, typeIn, Named, namesAComponent, nameIn}
+use Rattle.loops.specs.Loops.{loopAfter, complete}
+use Rattle.loops.specs.declared.Point.{Point}
 use Rattle.records.specs.declared.Stage.{Stage}
-use Rattle.records.specs.declared.Stage.the-variants.{Nothing as nothing, Headed as headed, Middle as middle, Finished as finished}
-use Rattle.records.specs.declared.LoopState.{LoopState}
-use Rattle.records.specs.declared.LoopState.the-variants.{NoPoint as noPoint}
+use Rattle.records.specs.declared.Stage.the-variants.{Nothing as nothing, Headed as headed}
+use Rattle.loops.specs.declared.LoopState.{LoopState}
+use Rattle.loops.specs.declared.LoopState.the-variants.{NoPoint as noPoint}
 use Rattle.records.specs.declared.Phase.{Phase}
 use Rattle.records.specs.declared.Phase.the-variants.{AwaitTitle as awaitTitle, AwaitName as awaitName, HeaderFull as headerFull, AwaitLead as awaitLead, InPoints as inPoints, InProps as inProps, InList as inList, AwaitPart as awaitPart, AwaitPosition as awaitPosition}
 use Rattle.records.specs.declared.State.{State}
@@ -29,6 +27,7 @@ use Rattle.records.specs.declared.Reason.{Reason}
 use Rattle.records.specs.declared.Reason.the-variants.{Misplaced as misplaced, Unfit as unfit, BadLoop as badLoop, Repeated as repeated}
 use Rattle.records.specs.declared.Outcome.{Outcome}
 use Rattle.records.specs.declared.Outcome.the-variants.{Next as next, Refused as refused}
+use Rattle.records.specs.Stages.{mayOpen, after, mayEnd, fileOf}
 
 -- the number of a refusal; n is that of the line's fields, where those do not fit
 abbrev pub refusalNumber : Reason → ℕ → ℕ
@@ -40,37 +39,6 @@ refusalNumber repeated n = 12
 -- no section behind us, and none open
 abbrev pub start : State
 start = between nothing
-
--- may section s open: the header first, then the outline of the file's type or a library's components, then any of 4 to 12, then PLACEMENT
-unfoldable pub mayOpen : Rules → Stage → ℕ → Bool
-mayOpen v nothing s = eqb s 1
-mayOpen v (headed board) s = eqb s 2
-mayOpen v (headed panel) s = eqb s 3
-mayOpen v (headed library) s = isComponent s
-mayOpen v (middle t h n) s = eqb s 13 || isMiddle v s && not (h && eqb s 11) && not (n && eqb s 12)
-mayOpen v finished s = false
-
--- after the outline of a board or panel its holes and notes are still to come; a library goes on as it is
-abbrev pub afterHeaded : FileType → Stage
-afterHeaded board = middle board false false
-afterHeaded panel = middle panel false false
-afterHeaded library = headed library
-
--- the stage after section s; the header's is known only where it ends
-unfoldable pub after : Stage → ℕ → Stage
-after nothing s = nothing
-after (headed t) s = afterHeaded t
-after (middle t h n) s = cond (eqb s 13) finished (middle t (h || eqb s 11) (n || eqb s 12))
-after finished s = finished
-
--- a board or a panel ends after PLACEMENT, a library after its header or any component
-abbrev pub mayEnd : Stage → Bool
-mayEnd nothing = false
-mayEnd (headed board) = false
-mayEnd (headed panel) = false
-mayEnd (headed library) = true
-mayEnd (middle t h n) = false
-mayEnd finished = true
 
 -- what a section begins with after its opening line
 abbrev pub startOf : Shape → Phase
@@ -97,13 +65,6 @@ roleNumber unknown = 10
 
 abbrev pub isRole : Role → Role → Bool
 isRole a b = eqb (roleNumber a) (roleNumber b)
-
--- the file's type by the sections behind us; before the title line is read no field depends on it
-abbrev pub fileOf : Stage → FileType
-fileOf nothing = library
-fileOf (headed t) = t
-fileOf (middle t h n) = t
-fileOf finished = library
 
 -- what x is, if the record has the role that it is looked at for and is well formed; otherwise y
 abbrev pub if-fit : Bool → Bool → Outcome → Outcome → Outcome
@@ -213,63 +174,6 @@ moved v (inside g s p) k t d = movedIn g s p (roleOf v k) t d
 -- a line of kind k with values that fit: the next state, or a refusal
 unfoldable pub stepped : Rules → State → ℕ → FileType → Point → Outcome
 stepped v st k t d = cond (mayStand v st k) (moved v st k t d) (refused misplaced)
-
--- the line of a section that holds its points: behind a leading line if there is one
-abbrev pub pointLine : Shape → ℕ
-pointLine header = 2
-pointLine outline = 2
-pointLine component = 2
-pointLine keepout = 1
-pointLine listing = 2
-pointLine placements = 2
-
--- PROP lines stand in ELECTRICAL only
-abbrev pub hasProps : Shape → Bool
-hasProps header = false
-hasProps outline = false
-hasProps component = true
-hasProps keepout = false
-hasProps listing = false
-hasProps placements = false
-
--- which line of its section a data line is, if one may stand here; saysProp: its first field is the bare word PROP
-abbrev pub lineAt : Shape → Phase → Bool → Option ℕ
-lineAt f awaitTitle saysProp = some 1
-lineAt f (awaitName t) saysProp = some 2
-lineAt f (headerFull t) saysProp = none
-lineAt f awaitLead saysProp = some 1
-lineAt f (inPoints l) saysProp = cond (saysProp && hasProps f) (some 3) (some (pointLine f))
-lineAt f inProps saysProp = cond (saysProp && hasProps f) (some 3) none
-lineAt f inList saysProp = some 1
-lineAt f awaitPart saysProp = some 1
-lineAt f awaitPosition saysProp = some 2
-
--- the section that is open, or 0
-abbrev pub sectionIn : State → ℕ
-sectionIn (between g) = 0
-sectionIn (inside g s p) = s
-
--- line n of section s, or none
-abbrev pub kindBy : Rules → ℕ → Option ℕ → ℕ
-kindBy v s none = 0
-kindBy v s (some n) = kindAt v s n
-
--- the kind of a data line in a state; 0 where none may stand
-unfoldable pub dataKind : Rules → State → Bool → ℕ
-dataKind v (between g) saysProp = 0
-dataKind v (inside g s p) saysProp = kindBy v s (lineAt (shapeOf v s) p saysProp)
-
--- the section that a keyword names, or 0
-abbrev pub keySection : Keyword → ℕ
-keySection (Opening s) = s
-keySection (Closing s) = s
-keySection Unknown = 0
-
--- the kind of a keyword line; 0 where no section has the keyword
-unfoldable pub keyKind : Rules → Keyword → ℕ
-keyKind v (Opening s) = kindAt v s 0
-keyKind v (Closing s) = kindAt v s 9
-keyKind v Unknown = 0
 
 -- not refused, and a test passes of the next state
 abbrev pub accepted : Outcome → (State → Bool) → Bool

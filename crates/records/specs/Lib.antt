@@ -1,5 +1,5 @@
 pub mod Marks
-pub mod Loops
+pub mod Stages
+pub mod Places
 pub mod Automaton
-pub mod Answers
 pub mod Roles

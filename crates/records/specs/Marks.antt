@@ -6,15 +6,14 @@ use mathlib.Core.Bool.{Bool, true, false, cond, _&&_, _||_}
 use lib.Dec.{leb, eqb}
 use lib.IntN.{ℤ, pos}
 use lib.ListN.{getD}
-use Rattle.measure.specs.Limits.{fullTurn}
 use Rattle.form.specs.Values.{Value, number, word, text, Rec}
 use Rattle.form.specs.Sections.{Shape, outline, Section, sectionAt}
 use Rattle.form.specs.declared.Rules.{Rules}
 use Rattle.form.specs.declared.Rules.the-variants.{Idf3}
 use Rattle.form.specs.declared.FileType.{FileType}
 use Rattle.form.specs.declared.FileType.the-variants.{Board, Panel, Library}
-use Rattle.records.specs.declared.Place.{Place}
-use Rattle.records.specs.declared.Point.{Point}
+use Rattle.loops.specs.declared.Place.{Place}
+use Rattle.loops.specs.declared.Point.{Point}
 
 -- the shape of a section; a number that no section has, and so no line, counts as an outline
 abbrev pub shapeBy : Option Section → Shape
@@ -76,10 +75,6 @@ angleOf r = numOf (valueAt r 3)
 
 abbrev pub pointOf : Rec → Point
 pointOf r = record { label = labelOf r; x = placeOf r .x; y = placeOf r .y; angle = record { 0 = angleOf r } }
-
--- 360 degrees, as a count
-abbrev pub wholeTurn : ℤ
-wholeTurn = pos fullTurn
 
 -- the file's type, by the first word of the title line
 abbrev pub typeNumbered : ℕ → FileType

@@ -1,24 +1,25 @@
 // Where a file stands between two lines: which sections may open, which lines may stand, and what a line does.
-use crate::LoopAnswer;
-use crate::LoopState;
 use crate::Outcome;
 use crate::Phase;
-use crate::Point;
 use crate::Reason;
 use crate::Stage;
 use crate::State;
-use crate::loops;
+use crate::stages;
 use form::FileType;
 use form::Keyword;
 use form::Rules;
+use loops::LoopAnswer;
+use loops::LoopState;
+use loops::Point;
 ghost use mathlib.Core.Path.{_≡_};
 ghost use Prim.Native.Nat.{_≤_};
 ghost use Rattle.form.specs.Kinds.{roleOf};
-ghost use Rattle.records.specs.Marks.{isLibrary, shapeOf, manyLoops, isMiddle};
-ghost use Rattle.records.specs.Loops.{loopAfter};
-ghost use Rattle.records.specs.Automaton.{refusalNumber, mayOpen, after, afterHeaded, mayEnd, accepting, afterTitle, startOf, roleNumber, standsBy, mayStand, afterPoint, onOrOut, amongPoints, movedBy, moved, stepped, fileOf, typeAt, pointLine, hasProps, lineAt, sectionIn, dataKind, keySection, keyKind};
-ghost use Rattle.records.specs.Answers.{lineNumber};
-ghost use Rattle.records.specs.declared.Stage.the-variants.{Headed, Middle};
+ghost use Rattle.records.specs.Marks.{shapeOf, manyLoops};
+ghost use Rattle.loops.specs.Loops.{loopAfter};
+ghost use Rattle.records.specs.Stages.{after};
+ghost use Rattle.records.specs.Places.{pointLine, hasProps, lineAt, sectionIn, dataKind, keySection, keyKind};
+ghost use Rattle.records.specs.Automaton.{refusalNumber, accepting, afterTitle, startOf, roleNumber, standsBy, mayStand, afterPoint, onOrOut, amongPoints, movedBy, moved, stepped, typeAt};
+ghost use Rattle.records.specs.Places.{lineNumber};
 
 // What a line is for in its section: 0 opens it, 1 title, 2 name, 3 lead, 4 point, 5 PROP, 6 entry, 7 part, 8 position, 9 closes it; : none.
 const ROLES: [[u8; 10]; 16] = [
@@ -53,102 +54,13 @@ pub fn role_of(v: Rules, kind: u64) -> u64
     (row[n] - 48) as u64
 }
 
-// Whether a section may stand between outline and PLACEMENT.
-fn is_middle(v: Rules, s: u64) -> bool
-    ensures { λ r. ⌜ r ≡ isMiddle v s ⌝ }
-{
-    (4 <= s) & (s <= 12)
-}
-
-// Whether a section may open after the header.
-fn headed_opens(v: Rules, t: FileType, s: u64) -> bool
-    ensures { λ r. ⌜ r ≡ mayOpen v (Headed t) s ⌝ }
-{
-    match t {
-        FileType::Board => s == 2,
-        FileType::Panel => s == 3,
-        FileType::Library => (s == 14) | (s == 15),
-    }
-}
-
-// Whether a section may open after the outline; holes and notes stand at most once.
-fn middle_opens(v: Rules, t: FileType, holes: bool, notes: bool, s: u64) -> bool
-    ensures { λ r. ⌜ r ≡ mayOpen v (Middle t holes notes) s ⌝ }
-{
-    (s == 13) | (is_middle(v, s) & !(holes & (s == 11)) & !(notes & (s == 12)))
-}
-
-// Whether a section may open.
-pub fn may_open(v: Rules, g: Stage, s: u64) -> bool
-    ensures { λ r. ⌜ r ≡ mayOpen v g s ⌝ }
-{
-    match g {
-        Stage::Nothing => s == 1,
-        Stage::Headed(t) => headed_opens(v, t, s),
-        Stage::Middle(t, holes, notes) => middle_opens(v, t, holes, notes, s),
-        Stage::Finished => false,
-    }
-}
-
-// Whether a file is a library.
-fn is_library(t: FileType) -> bool
-    ensures { λ r. ⌜ r ≡ isLibrary t ⌝ }
-{
-    match t {
-        FileType::Board => false,
-        FileType::Panel => false,
-        FileType::Library => true,
-    }
-}
-
-// Whether a file may end after a stage.
-fn may_end(g: Stage) -> bool
-    ensures { λ r. ⌜ r ≡ mayEnd g ⌝ }
-{
-    match g {
-        Stage::Nothing => false,
-        Stage::Headed(t) => is_library(t),
-        Stage::Middle(..) => false,
-        Stage::Finished => true,
-    }
-}
-
 // Whether a file may end in a state.
 pub fn accepting(st: State) -> bool
     ensures { λ r. ⌜ r ≡ accepting st ⌝ }
 {
     match st {
-        State::Between(g) => may_end(g),
+        State::Between(g) => stages::may_end(g),
         State::Inside(..) => false,
-    }
-}
-
-// After the outline holes and notes are still to come; a library goes on as it is.
-fn after_headed(t: FileType) -> Stage
-    ensures { λ r. ⌜ r ≡ afterHeaded t ⌝ }
-{
-    match t {
-        FileType::Board => Stage::Middle(t, false, false),
-        FileType::Panel => Stage::Middle(t, false, false),
-        FileType::Library => Stage::Headed(t),
-    }
-}
-
-// The stage after a section.
-fn after(g: Stage, s: u64) -> Stage
-    ensures { λ r. ⌜ r ≡ after g s ⌝ }
-{
-    match g {
-        Stage::Nothing => Stage::Nothing,
-        Stage::Headed(t) => after_headed(t),
-        Stage::Middle(t, holes, notes) => {
-            if s == 13 {
-                Stage::Finished
-            } else {
-                Stage::Middle(t, holes | (s == 11), notes | (s == 12))
-            }
-        }
-        Stage::Finished => Stage::Finished,
     }
 }
 
@@ -208,7 +120,7 @@ pub fn may_stand(v: Rules, st: State, kind: u64) -> bool
     let role = role_of(v, kind);
     let section = form::layouts::section_of(v, kind);
     match st {
-        State::Between(g) => (role == 0) & may_open(v, g, section),
+        State::Between(g) => (role == 0) & stages::may_open(v, g, section),
         State::Inside(_, s, p) => (section == s) & stands_in(p, role),
     }
 }
@@ -220,7 +132,7 @@ fn on_or_out(g: Stage, s: u64, stays: bool, p: Phase) -> Outcome
     if stays {
         Outcome::Next(State::Inside(g, s, p))
     } else {
-        Outcome::Next(State::Between(after(g, s)))
+        Outcome::Next(State::Between(stages::after(g, s)))
     }
 }
 
@@ -364,24 +276,12 @@ pub fn refusal_number(e: Reason, fields: u64) -> u64
     }
 }
 
-// The file's type by the sections behind us, a library's where none says it.
-fn file_of(g: Stage) -> FileType
-    ensures { λ r. ⌜ r ≡ fileOf g ⌝ }
-{
-    match g {
-        Stage::Nothing => FileType::Library,
-        Stage::Headed(t) => t,
-        Stage::Middle(t, _, _) => t,
-        Stage::Finished => FileType::Library,
-    }
-}
-
 // The file's type in a state.
 pub fn type_at(st: State) -> FileType
     ensures { λ r. ⌜ r ≡ typeAt st ⌝ }
 {
     match st {
-        State::Between(g) => file_of(g),
-        State::Inside(g, _, _) => file_of(g),
+        State::Between(g) => stages::file_of(g),
+        State::Inside(g, _, _) => stages::file_of(g),
     }
 }

@@ -12,11 +12,11 @@ use Rattle.text.proofs.Lists.{and-left, and-right, all-sound}
 use Rattle.measure.specs.Limits.{mostDecimals, largestLength, largestInteger}
 use Rattle.measure.specs.NumberRules as num
 use Rattle.measure.specs.NumberRules.{SpellsNumber}
-use Rattle.measure.specs.Printing.{printedCount, printedInteger}
+use Rattle.printing.specs.Printing.{printedCount, printedInteger}
 use Rattle.measure.specs.Dates.{isDate}
 use Rattle.measure.proofs.Tests.{or-false}
 use Rattle.measure.proofs.DateLaws.{date-sound}
-use Rattle.measure.proofs.PrintSpelling.{digit, count-spells, integer-spells}
+use Rattle.printing.proofs.PrintSpelling.{digit, count-spells, integer-spells}
 use Rattle.form.specs.Values.{Value, number, word, text}
 use Rattle.form.specs.Names.{wordsOf}
 use Rattle.form.specs.Compare.{wordAt}

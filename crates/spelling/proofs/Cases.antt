@@ -9,7 +9,7 @@ use Rattle.text.specs.LineRules.{blank, comment}
 use Rattle.text.specs.FirstField.{span, endsWell, bareAt, closedAt, quotedAt, fieldAt, fieldOf}
 use Rattle.text.specs.Fields.{fieldsIn, fieldsOf}
 use Rattle.measure.specs.Numbers.{digitHere, judge, decimals, whole, body, readNumber}
-use Rattle.measure.specs.Printing.{numeralOf, decimalsOf, magnitudeOf, signOf, printed}
+use Rattle.printing.specs.Printing.{numeralOf, decimalsOf, magnitudeOf, signOf, printed}
 use Rattle.form.specs.Values.{Value, number, word, text, Rec, Reply, good, refused}
 use Rattle.form.specs.Names.{wordsOf, sectionNames}
 use Rattle.form.specs.Compare.{sameBytes, folded, wordKey, sameWord, placeOf, wordAt}

@@ -5,7 +5,7 @@ use mathlib.Core.Option.{Option, none, some}
 use mathlib.Core.Bool.{Bool, true, false, not, _||_}
 use lib.IntN.{ℤ}
 use Rattle.text.specs.Bytes.{isSpace, ascii, allOf, begins, Field, field}
-use Rattle.measure.specs.Printing.{printedCount, printedInteger}
+use Rattle.printing.specs.Printing.{printedCount, printedInteger}
 use Rattle.form.specs.Values.{Value, number, word, text, Rec}
 use Rattle.form.specs.Names.{wordsOf, propWord}
 use Rattle.form.specs.Compare.{wordAt}
