@@ -11,3 +11,13 @@ pub mod Mending
 pub mod FirstLine
 pub mod WholeFiles
 pub mod Examples
+pub mod FieldTails
+pub mod RowColumns
+pub mod LineJoined
+pub mod LineNumbers
+pub mod LineUsed
+pub mod Traced
+pub mod NamesAgain
+pub mod CheckTold
+pub mod RowsTold
+pub mod Checked

@@ -125,10 +125,10 @@ role-after role.unknown s fs d h = refl
 
 module _ (v : Rules) where
   -- a line of kind k has these fields behind its front
-  abbrev Behind : ℕ → Line → List Field → Type 0
+  abbrev pub Behind : ℕ → Line → List Field → Type 0
   Behind k l gs = after (frontAt (roleOf v k) (sectionOf v k)) l ≡ good gs
 
-  abbrev Known : ℕ → Type 0
+  abbrev pub Known : ℕ → Type 0
   Known k = isRole (roleOf v k) unknown ≡ false
 
   zero-not : {A : Type 0} → Known 0 → A
@@ -144,13 +144,13 @@ module _ (v : Rules) where
       let e : roleOf v (kindAt v s n) ≡ roleIn (shapeOf v s) n = role-at v s n (kind-section v s n l h) l in
       rw e (role-after (roleIn (shapeOf v s) n) _ fs (y .0) (λ p. other (not (isRole (roleIn (shapeOf v s) n) role.prop)) (isProp fs) (rw p) (y .1)))
 
-  data-known : (st : State) (fs : List Field) → Known (dataKind v st (isProp fs)) → Behind (dataKind v st (isProp fs)) (dataLine fs) (ownFields v (dataKind v st (isProp fs)) fs)
+  pub data-known : (st : State) (fs : List Field) → Known (dataKind v st (isProp fs)) → Behind (dataKind v st (isProp fs)) (dataLine fs) (ownFields v (dataKind v st (isProp fs)) fs)
   unfolding dataKind
   data-known (between g) fs h = zero-not h
   data-known (inside g s p) fs h = data-behind s fs (lineAt (shapeOf v s) p (isProp fs)) (given (shapeOf v s) (isProp fs) p) h
 
   -- Keyword lines
-  key-behind : (w : List ℕ) (fs : List Field) (q : Keyword) → KeywordIs q w → Known (keyKind v q) → Behind (keyKind v q) (keyLine w fs) fs
+  pub key-behind : (w : List ℕ) (fs : List Field) (q : Keyword) → KeywordIs q w → Known (keyKind v q) → Behind (keyKind v q) (keyLine w fs) fs
   unfolding keyKind
   key-behind w fs (Opening s) i h =
       let k = kind-section v s 0 (omega arith) h in
@@ -167,7 +167,7 @@ module _ (v : Rules) where
     Means (says r t) = SpellsRecord (under v (typeAt st)) r l × (judge v used st r ≡ next t)
     Means (wrong n) = Unit {0}
 
-    record-spelled : (k : ℕ) (gs : List Field) (vs : List Value) → Known k → Behind k (lineAs l) gs → readFields (under v (typeAt st)) (typesOf v k) gs ≡ good vs
+    pub record-spelled : (k : ℕ) (gs : List Field) (vs : List Value) → Known k → Behind k (lineAs l) gs → readFields (under v (typeAt st)) (typesOf v k) gs ≡ good vs
         → SpellsRecord (under v (typeAt st)) (record { kind = k; values = vs }) l
     unfolding readLine
     record-spelled k gs vs h b e =

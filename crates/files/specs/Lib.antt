@@ -1,2 +1,3 @@
 pub mod Told
 pub mod WholeRules
+pub mod Outcomes

@@ -13,7 +13,7 @@ use Rattle.form.specs.declared.FieldType.{FieldType}
 use Rattle.form.specs.declared.FieldType.the-variants.{Text as T, Reference as Ref, Date as D, Integer as I, Number as N, Word as W}
 use Rattle.lines.specs.Meaning.{isText, isNumber, Means, none, aNumber, aWord, aDate, aText, Part}
 
-not-both : (t : FieldType) → isNumber t ≡ true → isText t ≡ true → ⊥
+pub not-both : (t : FieldType) → isNumber t ≡ true → isText t ≡ true → ⊥
 not-both T h i = false≢true h
 not-both Ref h i = false≢true h
 not-both D h i = false≢true h

@@ -161,7 +161,7 @@ by-field fuel s fs ih (Got a l q m) h e = go (fieldsIn fuel (drop m s)) refl e
         rw (← n) (got-spelled s h (ih (drop m s) gs i))
 by-field fuel s fs ih Broken h e = absurd (none-some e)
 
-sound-in : (fuel : ℕ) (s : List ℕ) (fs : List Field) → fieldsIn fuel s ≡ some fs → Spelled fs s
+pub sound-in : (fuel : ℕ) (s : List ℕ) (fs : List Field) → fieldsIn fuel s ≡ some fs → Spelled fs s
 unfolding fieldsIn
 sound-in zero s fs e = absurd (none-some e)
 sound-in (suc fuel) s fs e = by-field fuel s fs (sound-in fuel) (fieldOf s) refl e
