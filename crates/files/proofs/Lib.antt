@@ -21,3 +21,4 @@ pub mod NamesAgain
 pub mod CheckTold
 pub mod RowsTold
 pub mod Checked
+pub mod ReadSays
