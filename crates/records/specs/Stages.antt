@@ -2,15 +2,12 @@
 use Prim.Native.Nat.{ℕ}
 use mathlib.Core.Bool.{Bool, true, false, cond, not, _&&_, _||_}
 use lib.Dec.{eqb}
-use Rattle.form.specs.Sections.{header, outline, component}
-use Rattle.form.specs.Kinds.{title}
 use Rattle.form.specs.declared.Rules.{Rules}
 use Rattle.form.specs.declared.FileType.{FileType}
 use Rattle.form.specs.declared.FileType.the-variants.{Board as board, Panel as panel, Library as library}
 use Rattle.records.specs.Marks.{isMiddle, isComponent}
 use Rattle.records.specs.declared.Stage.{Stage}
 use Rattle.records.specs.declared.Stage.the-variants.{Nothing as nothing, Headed as headed, Middle as middle, Finished as finished}
-use Rattle.records.specs.declared.Outcome.the-variants.{Next as next}
 
 -- may section s open: the header first, then the outline of the file's type or a library's components, then any of 4 to 12, then PLACEMENT
 unfoldable pub mayOpen : Rules → Stage → ℕ → Bool

@@ -15,7 +15,7 @@ use Rattle.form.specs.Names.{wordsOf, sectionNames}
 use Rattle.form.specs.Compare.{sameBytes, folded, wordKey, sameWord, placeOf, wordAt}
 use Rattle.form.specs.Sections.{sections}
 use Rattle.form.specs.Kinds.{sectionOf, lineOf, roleOf}
-use Rattle.form.specs.Layouts.{Front, keyword, prop, plain, Layout, layoutOf}
+use Rattle.form.specs.Layouts.{Front, keyword, prop, plain, layoutOf}
 use Rattle.form.specs.Fits.{under, kept, within, meaning, barred, isEmpty}
 use Rattle.form.specs.Reading.{readField, readEach, readFields, lineAs, readLine}
 use Rattle.form.specs.declared.Rules.the-variants.{Idf3}

@@ -17,7 +17,7 @@ use Rattle.form.specs.Reading.{free as freeLine, bad, byFields, after, fieldsBy
 use Rattle.form.specs.declared.Context.{Context}
 use Rattle.form.specs.declared.FieldType.{FieldType}
 use Rattle.spelling.specs.RecordRules.{SpellsRecord}
-use Rattle.spelling.specs.FileRules.{Where, outside, inside, leadsTo, SpellsLines, end, free, line}
+use Rattle.spelling.specs.FileRules.{Where, inside, leadsTo, SpellsLines, end, free, line}
 use Rattle.spelling.proofs.Logic.{refused-good}
 use Rattle.spelling.proofs.RecordSpelling.{record-complete, record-unique}
 

@@ -1,3 +1,4 @@
+-- `printing::put_decimals` meets its contract. Assumes nothing.
 use borrow.Author.Needs.{needs}
 use Rattle.printing.proofs.PrintLaws.{decimals-wrote}
 use Rattle.printing.proofs.put_decimals.Statement.{statement}

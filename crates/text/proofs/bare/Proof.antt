@@ -1,11 +1,8 @@
+-- `text::bare` meets its contract. Assumes nothing.
 use borrow.Author.Needs.{needs}
 use Rattle.text.proofs.FieldLaws.{bare-got, bare-not, run-within, run-fits}
 use Rattle.text.proofs.bare.Statement.{statement}
 use Rattle.text.proofs.bare.Tie as tie
-use Rattle.text.proofs.bare.Reads as reads
-use Rattle.text.proofs.bare.Lts as lts
-use Rattle.text.proofs.ends.Reads as ends-reads
-use Rattle.text.proofs.run_len.Reads as run-len-reads
 
 ruleset laws = (bare-got, bare-not, run-within, run-fits, needs)
 

@@ -1,12 +1,10 @@
+-- `text::count_fields` meets its contract. Assumes nothing.
 use borrow.Author.Needs.{needs}
 use Prim.Native.Nat.{_-_}
 use lib.ListN.{length}
 use Rattle.text.proofs.Counting.{Counting, count-start, count-none, count-bad, count-next, next-fits, count-fits, count-less}
 use Rattle.text.proofs.count_fields.Statement.{statement}
 use Rattle.text.proofs.count_fields.Tie as tie
-use Rattle.text.proofs.count_fields.Reads as reads
-use Rattle.text.proofs.count_fields.Lts as lts
-use Rattle.text.proofs.field.Reads as field-reads
 
 abbrev Inv-loop : tie.InvT-loop
 Inv-loop line at₀ n₀ at n = Counting line at n

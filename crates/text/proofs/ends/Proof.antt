@@ -1,10 +1,9 @@
+-- `text::ends` meets its contract. Assumes nothing.
 use borrow.Author.Needs.{needs}
 use native.Mathlib.Omega.{arith}
 use Rattle.text.proofs.FieldLaws.{ends-end, ends-byte}
 use Rattle.text.proofs.ends.Statement.{statement}
 use Rattle.text.proofs.ends.Tie as tie
-use Rattle.text.proofs.ends.Reads as reads
-use Rattle.text.proofs.ends.Lts as lts
 
 returns : tie.Need-returns
 returns c = ends-end (c .before .args .s .now) (c .before .args .at) (omega arith)

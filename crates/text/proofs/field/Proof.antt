@@ -1,12 +1,8 @@
+-- `text::field` meets its contract. Assumes nothing.
 use borrow.Author.Needs.{needs}
 use Rattle.text.proofs.FieldLaws.{field-none, field-quoted, field-bare, run-within}
 use Rattle.text.proofs.field.Statement.{statement}
 use Rattle.text.proofs.field.Tie as tie
-use Rattle.text.proofs.field.Reads as reads
-use Rattle.text.proofs.field.Lts as lts
-use Rattle.text.proofs.bare.Reads as bare-reads
-use Rattle.text.proofs.quoted.Reads as quoted-reads
-use Rattle.text.proofs.run_len.Reads as run-len-reads
 
 ruleset laws = (field-none, field-quoted, field-bare, run-within, needs)
 

@@ -1,9 +1,8 @@
+-- `text::passes` meets its contract. Assumes nothing.
 use borrow.Author.Needs.{needs}
 use borrow.Author.Tests.{eq-eqb, ne-eqb}
 use Rattle.text.proofs.passes.Statement.{statement}
 use Rattle.text.proofs.passes.Tie as tie
-use Rattle.text.proofs.passes.Reads as reads
-use Rattle.text.proofs.passes.Lts as lts
 
 enum-told : tie.Need-enum-told
 enum-told c = search needs

@@ -1,11 +1,8 @@
+-- `text::quoted` meets its contract. Assumes nothing.
 use borrow.Author.Needs.{needs}
 use Rattle.text.proofs.FieldLaws.{quoted-open, quoted-got, quoted-not, run-within}
 use Rattle.text.proofs.quoted.Statement.{statement}
 use Rattle.text.proofs.quoted.Tie as tie
-use Rattle.text.proofs.quoted.Reads as reads
-use Rattle.text.proofs.quoted.Lts as lts
-use Rattle.text.proofs.ends.Reads as ends-reads
-use Rattle.text.proofs.run_len.Reads as run-len-reads
 
 ruleset laws = (quoted-open, quoted-got, quoted-not, run-within, needs)
 

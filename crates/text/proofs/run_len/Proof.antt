@@ -1,3 +1,4 @@
+-- `text::run_len` meets its contract. Assumes nothing.
 use borrow.Author.Needs.{needs}
 use Prim.Native.Nat.{_-_}
 use mathlib.Core.Path.{sym, _∙_}
@@ -7,9 +8,6 @@ use Rattle.text.specs.FirstField.{passesOf}
 use Rattle.text.proofs.FieldLaws.{Runs, runs-start, runs-more, runs-stop, runs-end}
 use Rattle.text.proofs.run_len.Statement.{statement}
 use Rattle.text.proofs.run_len.Tie as tie
-use Rattle.text.proofs.run_len.Reads as reads
-use Rattle.text.proofs.run_len.Lts as lts
-use Rattle.text.proofs.passes.Reads as passes-reads
 
 abbrev Inv-loop : tie.InvT-loop
 Inv-loop s k i₀ i = Runs (passesOf k) s i

@@ -1,3 +1,4 @@
+-- `measure::read::is_date` meets its contract. Assumes nothing.
 use borrow.Author.Needs.{needs}
 use Rattle.measure.specs.DateRules.{datePieces}
 use Rattle.measure.proofs.DateLaws.{date-short, date-is}
