@@ -6,7 +6,7 @@ ghost use Prim.Native.Nat.{_<_, _≤_};
 ghost use mathlib.Core.Path.{_≡_};
 
 // How many bytes a header has.
-pub const SIZE: usize = 64;
+pub(crate) const SIZE: usize = 64;
 
 // How many of them the name and the spaces behind it have.
 const NAME: usize = 32;
@@ -73,27 +73,27 @@ fn say_front(head: &[u8], n: usize) {
 }
 
 // Writes the name.
-pub fn say_name(head: &[u8; SIZE]) {
+pub(crate) fn say_name(head: &[u8; SIZE]) {
     say_front(head, name_len(head));
 }
 
 // Whether the case is one of `read`; any other is one of `check`.
-pub fn reads(head: &[u8; SIZE]) -> bool {
+pub(crate) fn reads(head: &[u8; SIZE]) -> bool {
     head[NAME] == b'r'
 }
 
 // How many numbers are lent.
-pub fn lent(head: &[u8; SIZE]) -> usize {
+pub(crate) fn lent(head: &[u8; SIZE]) -> usize {
     number(head, 37, 43) as usize
 }
 
 // How many bytes the file has.
-pub fn bytes(head: &[u8; SIZE]) -> usize {
+pub(crate) fn bytes(head: &[u8; SIZE]) -> usize {
     number(head, 43, 49) as usize
 }
 
 // The reply that is expected.
-pub fn expected(head: &[u8; SIZE]) -> Reply {
+pub(crate) fn expected(head: &[u8; SIZE]) -> Reply {
     Reply {
         number: number(head, 49, 52),
         line: number(head, 52, 58),

@@ -12,21 +12,21 @@ const ROOM: usize = 4_096;
 const MARK: i64 = 7;
 
 // The numbers to lend.
-pub fn room() -> [i64; ROOM]
+pub(crate) fn room() -> [i64; ROOM]
     ensures { λ r. ⌜ 4096 ≡ length r ⌝ }
 {
     [MARK; ROOM]
 }
 
 // The smaller of two numbers.
-pub fn least(a: usize, b: usize) -> usize
+pub(crate) fn least(a: usize, b: usize) -> usize
     ensures { λ r. ⌜ r ≤ b ⌝ }
 {
     if a < b { a } else { b }
 }
 
 // How many of some lent numbers the rows of a reply take; none on a refusal.
-pub fn taken(came: Reply, lent: usize) -> usize
+pub(crate) fn taken(came: Reply, lent: usize) -> usize
     ensures { λ r. ⌜ r ≤ lent ⌝ }
 {
     if came.number != 0 {
@@ -39,7 +39,7 @@ pub fn taken(came: Reply, lent: usize) -> usize
 }
 
 // Whether all numbers have their mark.
-pub fn untouched(rest: &[i64]) -> bool {
+pub(crate) fn untouched(rest: &[i64]) -> bool {
     let mut i = 0;
     while i < rest.len() {
         if rest[i] != MARK {

@@ -3,17 +3,17 @@ use lines::WIDTH;
 use reading::Reply;
 
 // Bytes as they are.
-pub fn say(words: &[u8]) {
+pub(crate) fn say(words: &[u8]) {
     io::write_all(1, words);
 }
 
 // A number in decimal.
-pub fn number(n: u64) {
+pub(crate) fn number(n: u64) {
     io::print_decimal(1, n);
 }
 
 // The end of a line.
-pub fn end_line() {
+pub(crate) fn end_line() {
     say(b"\n");
 }
 
@@ -35,12 +35,12 @@ fn reply(r: Reply) {
 }
 
 // Whether two replies are the same.
-pub fn agree(a: Reply, b: Reply) -> bool {
+pub(crate) fn agree(a: Reply, b: Reply) -> bool {
     (a.number == b.number) & (a.line == b.line) & (a.count == b.count)
 }
 
 // The reply that came beside the one expected.
-pub fn replies(came: Reply, expected: Reply) {
+pub(crate) fn replies(came: Reply, expected: Reply) {
     say(b"came ");
     reply(came);
     say(b", expected ");
@@ -61,7 +61,7 @@ fn gap(i: usize) {
 }
 
 // Rows, a line each.
-pub fn rows(numbers: &[i64]) {
+pub(crate) fn rows(numbers: &[i64]) {
     let mut i = 0;
     while i < numbers.len() {
         signed(numbers[i]);
@@ -71,7 +71,7 @@ pub fn rows(numbers: &[i64]) {
 }
 
 // Whether the numbers that no row took are as they were.
-pub fn kept(yes: bool) {
+pub(crate) fn kept(yes: bool) {
     if yes {
         say(b"untouched");
     } else {

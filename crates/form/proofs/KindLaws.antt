@@ -34,7 +34,7 @@ unfolding sectionOf
 no-section Idf3 k h = rw (lt-leb k 159 h)
 
 -- bytes that pass the test are the same
-same-eq : (s t : List ℕ) → sameBytes s t ≡ true → s ≡ t
+pub same-eq : (s t : List ℕ) → sameBytes s t ≡ true → s ≡ t
 unfolding sameBytes
 same-eq [] [] h = refl
 same-eq [] (b ∷ t) h = absurd (false≢true h)

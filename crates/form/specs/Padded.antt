@@ -1,10 +1,10 @@
 -- The tables of names and words as the code has them: rows of one length, padded with spaces; and rows compared with bytes.
-use Prim.Native.Nat.{ℕ, suc, _+_}
+use Prim.Native.Nat.{ℕ, suc, _+_, _-_}
 use mathlib.Core.List.{List, [], _∷_}
 use mathlib.Core.Option.{Option, none, some}
 use mathlib.Core.Bool.{Bool, true, false, cond, not, _&&_}
-use lib.Dec.{eqb}
-use lib.ListN.{take, drop}
+use lib.Dec.{ltb, eqb}
+use lib.ListN.{getD, take, drop}
 use Rattle.text.specs.Bytes.{ascii}
 use Rattle.form.specs.Compare.{capital}
 use Rattle.form.specs.declared.Found.{Found}
@@ -97,6 +97,17 @@ spanOf Idf3 Sides = record { first = 25; count = 3 }
 spanOf Idf3 Layers = record { first = 28; count = 5 }
 spanOf Idf3 Plates = record { first = 33; count = 2 }
 spanOf Idf3 Statuses = record { first = 35; count = 4 }
+
+-- a row that holds no word
+unfoldable pub blankRow : List ℕ
+blankRow = ascii "                "
+
+-- the row of a word by its place, and of a section's name
+unfoldable pub wordRow : Rules → Words → ℕ → List ℕ
+wordRow v l n = cond (ltb n (spanOf v l .count)) (getD rowTable (spanOf v l .first + n) []) blankRow
+
+unfoldable pub nameRow : ℕ → List ℕ
+nameRow s = cond (eqb s 0) blankRow (cond (ltb 15 s) blankRow (getD rowTable (s - 1) []))
 
 -- begins with END_, in any letter case
 unfoldable pub endsName : List ℕ → Bool

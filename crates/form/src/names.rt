@@ -12,7 +12,7 @@ ghost use lib.ListN.{getD, take, drop};
 ghost use Rattle.form.specs.Compare.{capital, folded, placeOf, sameWord};
 ghost use Rattle.form.specs.Names.{propWord, wordsOf};
 ghost use Rattle.form.specs.Reading.{keywordOf};
-ghost use Rattle.form.specs.Padded.{keyed, matched, rowTable, sought, found, spanOf, endsName, closingOf};
+ghost use Rattle.form.specs.Padded.{keyed, matched, rowTable, sought, found, spanOf, blankRow, wordRow, nameRow, endsName, closingOf};
 
 // The names of the sections, then the words, list after list, each in the order of its places.
 const ROWS: [[u8; 16]; 39] = [
@@ -165,6 +165,39 @@ pub fn place_of(v: Rules, l: Words, s: &[u8]) -> Found
     let first = rows.first;
     let count = rows.count;
     seek(first, count, s, false)
+}
+
+// A row that holds no word.
+fn blank() -> [u8; 16]
+    ensures { λ r. ⌜ r ≡ blankRow ⌝ }
+{
+    *b"                "
+}
+
+// The row of a word, by its place in its list; a blank one where the list has no such place.
+pub fn word_row(v: Rules, l: Words, n: u64) -> [u8; 16]
+    ensures { λ r. ⌜ r ≡ wordRow v l n ⌝ }
+{
+    let rows = rows_of(v, l);
+    let first = rows.first;
+    let count = rows.count;
+    if n < count as u64 {
+        return row_at(first + n as usize);
+    }
+    blank()
+}
+
+// The row of a section's name; a blank one where there is no such section.
+pub fn name_row(s: u64) -> [u8; 16]
+    ensures { λ r. ⌜ r ≡ nameRow s ⌝ }
+{
+    if s == 0 {
+        return blank();
+    }
+    if 15 < s {
+        return blank();
+    }
+    row_at(s as usize - 1)
 }
 
 // Whether a bare field is the word before a property's name.

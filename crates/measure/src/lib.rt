@@ -1,4 +1,4 @@
-// Numbers: lengths, angles and integers, kept apart by kind. `read` takes them from a field's bytes, `print` writes them back.
+// Numbers: lengths, angles and integers, kept apart by kind. `read` takes them from the bytes of a field.
 pub mod read;
 
 ghost use mathlib.Core.Path.{_≡_};

@@ -40,7 +40,7 @@ mayEnd (headed library) = true
 mayEnd (middle t h n) = false
 mayEnd finished = true
 
--- the file's type by the sections behind us; before the title line is read no field depends on it
+-- the file's type by the sections behind us; where none says it no field depends on it
 abbrev pub fileOf : Stage → FileType
 fileOf nothing = library
 fileOf (headed t) = t

@@ -56,7 +56,7 @@ fn is_library(t: FileType) -> bool
 }
 
 // Whether a file may end after a stage.
-pub fn may_end(g: Stage) -> bool
+pub(crate) fn may_end(g: Stage) -> bool
     ensures { λ r. ⌜ r ≡ mayEnd g ⌝ }
 {
     match g {
@@ -79,7 +79,7 @@ fn after_headed(t: FileType) -> Stage
 }
 
 // The stage after a section.
-pub fn after(g: Stage, s: u64) -> Stage
+pub(crate) fn after(g: Stage, s: u64) -> Stage
     ensures { λ r. ⌜ r ≡ after g s ⌝ }
 {
     match g {
@@ -97,7 +97,7 @@ pub fn after(g: Stage, s: u64) -> Stage
 }
 
 // The file's type by the sections behind us, a library's where none says it.
-pub fn file_of(g: Stage) -> FileType
+pub(crate) fn file_of(g: Stage) -> FileType
     ensures { λ r. ⌜ r ≡ fileOf g ⌝ }
 {
     match g {

@@ -1,4 +1,4 @@
-// Where a file stands between two lines: which sections may open, which lines may stand, and what a line does.
+// Where a file stands between two lines: which lines may stand there, what a line does, and the kind of a line by its place.
 use crate::Outcome;
 use crate::Phase;
 use crate::Reason;

@@ -1,7 +1,7 @@
 -- How the lines of a file spell a list of records, and where free lines may stand: producing rules.
 use Prim.Native.Nat.{ℕ}
 use mathlib.Core.List.{List, [], _∷_}
-use Rattle.text.specs.LineRules.{File, Free}
+use Rattle.text.specs.LineRules.{Free}
 use Rattle.form.specs.Values.{Rec}
 use Rattle.form.specs.Kinds.{Role, opening, closing, title, name, lead, point, prop, entry, part, position, unknown, roleOf}
 use Rattle.form.specs.declared.Context.{Context}
@@ -31,9 +31,3 @@ pub data SpellsLines (c : Context) : Where → List Rec → List (List ℕ) → 
   free : {rs : List Rec} {l : List ℕ} {ls : List (List ℕ)} → Free l → SpellsLines c outside rs ls → SpellsLines c outside rs (l ∷ ls)
   line : {w : Where} {r : Rec} {rs : List Rec} {l : List ℕ} {ls : List (List ℕ)}
       → SpellsRecord c r l → SpellsLines c (leadsTo (roleOf (c .rules) (r .kind)) w) rs ls → SpellsLines c w (r ∷ rs) (l ∷ ls)
-
--- a file spells the records that its lines spell, from outside of all sections on
-pub record SpellsFile (c : Context) (rs : List Rec) (file : List ℕ) : Type 0 where
-  pub lines : List (List ℕ)
-  pub made : File lines file
-  pub spelled : SpellsLines c outside rs lines

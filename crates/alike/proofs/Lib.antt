@@ -1,0 +1,4 @@
+pub mod Values
+pub mod Fields
+pub mod Lists
+pub mod Sameness

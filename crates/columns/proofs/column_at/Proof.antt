@@ -1,0 +1,24 @@
+-- `columns::column_at` meets its contract. Assumes nothing.
+use borrow.Author.Needs.{needs}
+use Rattle.columns.proofs.ColumnLaws.{column-past}
+use Rattle.columns.proofs.column_at.Statement.{statement}
+use Rattle.columns.proofs.column_at.Tie as tie
+
+ruleset laws = (column-past, needs)
+
+mul-result : tie.Need-mul-result
+mul-result c = search laws
+
+array-copy-out-result : tie.Need-array-copy-out-result
+array-copy-out-result c = search laws
+
+returns : tie.Need-returns
+returns c = search laws
+
+returns-2 : tie.Need-returns-2
+returns-2 c = search laws
+
+pub column-at-spec : {M : Type 1} → statement M
+column-at-spec =
+    tie.close
+    (tie.spec mul-result array-copy-out-result returns returns-2)

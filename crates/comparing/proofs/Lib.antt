@@ -1,0 +1,5 @@
+pub mod TextLaws
+pub mod RowLaws
+pub mod NextLaws
+pub mod ListLaws
+pub mod VerdictLaws

@@ -1,0 +1,5 @@
+pub mod Ignoring
+pub mod SameRows
+pub mod NextRows
+pub mod SameLists
+pub mod Verdicts

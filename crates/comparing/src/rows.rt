@@ -1,0 +1,159 @@
+// Two records by their rows, each in its own file: the same kind, and each field by its type.
+use crate::FIELDS;
+use crate::Ignored;
+use form::FieldType;
+use form::Rules;
+use lines::WIDTH;
+ghost use mathlib.Core.Path.{_≡_};
+ghost use Prim.Native.Nat.{_+_, _≤_, _<_, min};
+ghost use lib.IntN.{natAbs};
+ghost use lib.ListN.{length, take, drop};
+ghost use Rattle.form.specs.Compare.{sameBytes};
+ghost use Rattle.form.specs.Letters.{widthOf};
+ghost use Rattle.lines.specs.Rows.{width};
+ghost use Rattle.comparing.specs.Ignoring.{ignoredAt};
+ghost use Rattle.comparing.specs.SameRows.{sameTexts, holdsBytes, sameField, agreesAt, sameFields, sameRow};
+
+// A column as a place: no more than a largest one.
+fn at_most(z: i64, most: usize) -> usize
+    ensures { λ r. ⌜ r ≡ min (natAbs z) most ⌝ }
+{
+    let n = measure::magnitude(z) as usize;
+    if n < most {
+        return n;
+    }
+    most
+}
+
+// Whether parts of two files are the same, each by its start and length.
+fn same_parts(first: &[u8], a: usize, n: usize, second: &[u8], b: usize, m: usize) -> bool
+    requires { ⌜ (a + n ≤ length (now first)) × (b + m ≤ length (now second)) ⌝ }
+    ensures { λ r. ⌜ r ≡ sameBytes (take n (drop a (now (first .entry)))) (take m (drop b (now (second .entry)))) ⌝ }
+{
+    fields::same(&first[a..a + n], &second[b..b + m])
+}
+
+// Whether texts of two files are the same, each by its start and length; what lies past a file's end is left off.
+fn same_texts(first: &[u8], start: i64, len: i64, second: &[u8], other: i64, size: i64) -> bool
+    ensures { λ r. ⌜ r ≡ sameTexts (now (first .entry)) start len (now (second .entry)) other size ⌝ }
+{
+    let a = at_most(start, first.len());
+    let n = at_most(len, first.len() - a);
+    let b = at_most(other, second.len());
+    let m = at_most(size, second.len() - b);
+    same_parts(first, a, n, second, b, m)
+}
+
+// Whether a field of a type is held as bytes of its file; all others are held in the row itself.
+fn holds_bytes(t: FieldType) -> bool
+    ensures { λ r. ⌜ r ≡ holdsBytes t ⌝ }
+{
+    match t {
+        FieldType::Text => true,
+        FieldType::Reference => true,
+        FieldType::Date => true,
+        FieldType::Integer => false,
+        FieldType::Number(_) => false,
+        FieldType::Word(_) => false,
+    }
+}
+
+// How many columns a field of a type fills.
+fn column_len(t: FieldType) -> usize
+    ensures { λ r. ⌜ r ≡ widthOf t ⌝ }
+{
+    match t {
+        FieldType::Text => 2,
+        FieldType::Reference => 2,
+        FieldType::Date => 2,
+        FieldType::Integer => 1,
+        FieldType::Number(_) => 1,
+        FieldType::Word(_) => 1,
+    }
+}
+
+// Whether two records have the same in a field of a type, which begins at a column.
+fn same_field(
+    t: FieldType,
+    first: &[u8],
+    x: [i64; WIDTH],
+    second: &[u8],
+    y: [i64; WIDTH],
+    at: usize,
+) -> bool
+    requires { ⌜ at + widthOf t ≤ width ⌝ }
+    ensures { λ r. ⌜ r ≡ sameField t (now (first .entry)) (drop at x) (now (second .entry)) (drop at y) ⌝ }
+{
+    if holds_bytes(t) {
+        return same_texts(first, x[at], x[at + 1], second, y[at], y[at + 1]);
+    }
+    loops::same(x[at], y[at])
+}
+
+// Whether a comparison leaves out field i of the records of a kind.
+fn is_ignored(g: Ignored, kind: u64, i: usize) -> bool
+    requires { ⌜ i < 7 ⌝ }
+    ensures { λ r. ⌜ r ≡ ignoredAt g kind i ⌝ }
+{
+    let fields = g.fields;
+    if g.kind == kind {
+        return fields[i];
+    }
+    false
+}
+
+// Whether two records of a kind agree in field i, of a type and from a column on, or it is left out.
+fn agrees_at(
+    g: Ignored,
+    kind: u64,
+    i: usize,
+    t: FieldType,
+    first: &[u8],
+    x: [i64; WIDTH],
+    second: &[u8],
+    y: [i64; WIDTH],
+    at: usize,
+) -> bool
+    requires { ⌜ (i < 7) × (at + widthOf t ≤ width) ⌝ }
+    ensures { λ r. ⌜ r ≡ agreesAt g kind i t (now (first .entry)) (drop at x) (now (second .entry)) (drop at y) ⌝ }
+{
+    if is_ignored(g, kind, i) {
+        return true;
+    }
+    same_field(t, first, x, second, y, at)
+}
+
+// Whether two records of a kind agree in all fields but those that are left out.
+fn same_fields(
+    g: Ignored,
+    kind: u64,
+    first: &[u8],
+    x: [i64; WIDTH],
+    second: &[u8],
+    y: [i64; WIDTH],
+) -> bool
+    ensures { λ r. ⌜ r ≡ sameFields g kind (now (first .entry)) x (now (second .entry)) y ⌝ }
+{
+    let n = form::layouts::field_count(Rules::Idf3, kind);
+    let mut at = 1;
+    let mut i = 0;
+    while i < n {
+        let t = form::layouts::field_type(Rules::Idf3, kind, i);
+        if !agrees_at(g, kind, i, t, first, x, second, y, at) {
+            return false;
+        }
+        at += column_len(t);
+        i += 1;
+    }
+    true
+}
+
+// Whether two records are the same but for the fields that are left out.
+pub fn same_row(g: Ignored, first: &[u8], x: [i64; WIDTH], second: &[u8], y: [i64; WIDTH]) -> bool
+    ensures { λ r. ⌜ r ≡ sameRow g (now (first .entry)) x (now (second .entry)) y ⌝ }
+{
+    if !loops::same(x[0], y[0]) {
+        return false;
+    }
+    same_fields(g, measure::magnitude(x[0]), first, x, second, y)
+}

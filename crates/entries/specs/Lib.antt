@@ -1,0 +1,2 @@
+pub mod JudgeRules
+pub mod JudgeLists

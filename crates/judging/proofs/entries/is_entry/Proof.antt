@@ -1,0 +1,24 @@
+-- `judging::entries::is_entry` meets its contract. Assumes nothing.
+use borrow.Author.Needs.{needs}
+use Rattle.judging.proofs.EntryLaws.{no-entry, entry-here}
+use Rattle.judging.proofs.entries.is_entry.Statement.{statement}
+use Rattle.judging.proofs.entries.is_entry.Tie as tie
+
+ruleset laws = (no-entry, entry-here, needs)
+
+is-of-requires : tie.Need-is-of-requires
+is-of-requires c κs = search laws
+
+same-entry-requires : tie.Need-same-entry-requires
+same-entry-requires c κs = search laws
+
+returns : tie.Need-returns
+returns c = search laws
+
+returns-2 : tie.Need-returns-2
+returns-2 c = search laws
+
+pub is-entry-spec : {M : Type 1} → statement M
+is-entry-spec =
+    tie.close
+    (tie.spec is-of-requires same-entry-requires returns returns-2)

@@ -1,0 +1,99 @@
+// The entries of a library, and what the placements of a board need of them.
+use crate::texts;
+use lines::WIDTH;
+use loops::same;
+use reading::Turn;
+use reading::walking;
+ghost use mathlib.Core.Path.{_≡_};
+ghost use Prim.Native.Nat.{_≤_};
+ghost use lib.ListN.{length};
+ghost use Rattle.reading.specs.Walks.{limit};
+ghost use Rattle.judging.specs.Entries.{sameEntry, refers, isOf, isEntry, hasEntry, lacksEntry, lacks};
+
+// Whether a row of a library has the geometry and part that a placement has as package and part number.
+fn same_entry(library: &[u8], y: [i64; WIDTH], board: &[u8], x: [i64; WIDTH]) -> bool
+    ensures { λ r. ⌜ r ≡ sameEntry (now (library .entry)) y (now (board .entry)) x ⌝ }
+{
+    if texts::same_in(library, y[1], y[2], board, x[1], x[2]) {
+        return texts::same_in(library, y[3], y[4], board, x[3], x[4]);
+    }
+    false
+}
+
+// Whether a line is a row of this kind.
+pub fn is_of(t: Turn, kind: i64) -> bool
+    ensures { λ r. ⌜ r ≡ isOf t kind ⌝ }
+{
+    let found = t.found;
+    let row = t.row;
+    if walking::is_row(found) {
+        return same(row[0], kind);
+    }
+    false
+}
+
+// Whether a line of a library is a placement's entry, of this kind.
+fn is_entry(library: &[u8], t: Turn, kind: i64, board: &[u8], x: [i64; WIDTH]) -> bool
+    ensures { λ r. ⌜ r ≡ isEntry (now (library .entry)) t kind (now (board .entry)) x ⌝ }
+{
+    let row = t.row;
+    if is_of(t, kind) {
+        return same_entry(library, row, board, x);
+    }
+    false
+}
+
+// Whether a library has a placement's entry, of this kind.
+fn has_entry(library: &[u8], kind: i64, board: &[u8], x: [i64; WIDTH]) -> bool
+    requires { ⌜ length (now library) ≤ limit ⌝ }
+    ensures { λ r. ⌜ r ≡ hasEntry (now (library .entry)) kind (now (board .entry)) x ⌝ }
+{
+    let mut w = walking::begin();
+    let mut at = 0;
+    while at < library.len() {
+        let t = walking::turn(library, w);
+        let found = t.found;
+        if walking::stops(found) {
+            return false;
+        }
+        if is_entry(library, t, kind, board, x) {
+            return true;
+        }
+        w = t.walk;
+        at = w.at;
+    }
+    false
+}
+
+// Whether a placement has this reference.
+fn refers(board: &[u8], x: [i64; WIDTH], word: &[u8]) -> bool
+    ensures { λ r. ⌜ r ≡ refers (now (board .entry)) x (now (word .entry)) ⌝ }
+{
+    texts::text_is(board, x[5], x[6], word)
+}
+
+// Whether a placement lacks its entry: BOARD needs none, NOREFDES a mechanical one, all others an electrical one.
+fn lacks_entry(library: &[u8], board: &[u8], x: [i64; WIDTH]) -> bool
+    requires { ⌜ length (now library) ≤ limit ⌝ }
+    ensures { λ r. ⌜ r ≡ lacksEntry (now (library .entry)) (now (board .entry)) x ⌝ }
+{
+    if refers(board, x, b"BOARD") {
+        return false;
+    }
+    if refers(board, x, b"NOREFDES") {
+        return !has_entry(library, 151, board, x);
+    }
+    !has_entry(library, 141, board, x)
+}
+
+// Whether a line of a board is a placement that lacks its entry.
+pub fn lacks(library: &[u8], board: &[u8], t: Turn) -> bool
+    requires { ⌜ length (now library) ≤ limit ⌝ }
+    ensures { λ r. ⌜ r ≡ lacks (now (library .entry)) (now (board .entry)) t ⌝ }
+{
+    let row = t.row;
+    if is_of(t, 131) {
+        return lacks_entry(library, board, row);
+    }
+    false
+}

@@ -1,0 +1,145 @@
+// A whole board or panel, judged against a whole library.
+use crate::Verdict;
+use crate::entries;
+use form::FileType;
+use reading::Reply;
+use reading::Turn;
+use reading::line;
+use reading::walking;
+use reading::whole;
+ghost use mathlib.Core.Path.{_≡_};
+ghost use Prim.Native.Nat.{_^_, _≤_, _<_};
+ghost use lib.ListN.{length};
+ghost use Rattle.records.specs.Marks.{isLibrary};
+ghost use Rattle.reading.specs.Walks.{limit};
+ghost use Rattle.judging.specs.Verdicts.{verdict, refusedAs, typeOf, numbered, placed, matched, withLibrary, judgeReply};
+
+// A verdict on no line.
+fn verdict(number: u64, count: u64, which: u64) -> Verdict
+    ensures { λ r. ⌜ r ≡ verdict number 0 count which ⌝ }
+{
+    Verdict {
+        number: number,
+        line: 0,
+        count: count,
+        which: which,
+    }
+}
+
+// A file's own refusal.
+fn refused(r: Reply, which: u64) -> Verdict
+    ensures { λ q. ⌜ q ≡ refusedAs r which ⌝ }
+{
+    Verdict {
+        number: r.number,
+        line: r.line,
+        count: r.count,
+        which: which,
+    }
+}
+
+// Whether a type is a library's.
+fn is_library(t: FileType) -> bool
+    ensures { λ r. ⌜ r ≡ isLibrary t ⌝ }
+{
+    match t {
+        FileType::Board => false,
+        FileType::Panel => false,
+        FileType::Library => true,
+    }
+}
+
+// A file's type, in the row of its title line.
+fn file_type(file: &[u8]) -> FileType
+    requires { ⌜ length (now file) ≤ limit ⌝ }
+    ensures { λ r. ⌜ r ≡ typeOf (now (file .entry)) ⌝ }
+{
+    let mut w = walking::begin();
+    let mut at = 0;
+    while at < file.len() {
+        let t = walking::turn(file, w);
+        let found = t.found;
+        let row = t.row;
+        if walking::stops(found) {
+            return FileType::Library;
+        }
+        if entries::is_of(t, 11) {
+            return line::type_in(row);
+        }
+        w = t.walk;
+        at = w.at;
+    }
+    FileType::Library
+}
+
+// How many placements there are with a line more.
+fn numbered(n: u64, t: Turn) -> u64
+    requires { ⌜ n < 2 ^ 62 ⌝ }
+    ensures { λ r. ⌜ r ≡ numbered n t ⌝ }
+{
+    if entries::is_of(t, 131) {
+        return n + 1;
+    }
+    n
+}
+
+// The placements of a board: 16 at the first that lacks its entry, or their number.
+fn placed(library: &[u8], board: &[u8]) -> Verdict
+    requires { ⌜ (length (now library) ≤ limit) × (length (now board) ≤ limit) ⌝ }
+    ensures { λ r. ⌜ r ≡ placed (now (library .entry)) (now (board .entry)) ⌝ }
+{
+    let mut w = walking::begin();
+    let mut at = 0;
+    let mut n = 0;
+    while at < board.len() {
+        let t = walking::turn(board, w);
+        let found = t.found;
+        if walking::stops(found) {
+            return verdict(0, n, 0);
+        }
+        n = numbered(n, t);
+        if entries::lacks(library, board, t) {
+            return verdict(16, n, 1);
+        }
+        w = t.walk;
+        at = w.at;
+    }
+    verdict(0, n, 0)
+}
+
+// Two accepted files: 17 unless the first is a board or panel, and the second a library.
+fn matched(library: &[u8], board: &[u8]) -> Verdict
+    requires { ⌜ (length (now library) ≤ limit) × (length (now board) ≤ limit) ⌝ }
+    ensures { λ r. ⌜ r ≡ matched (now (library .entry)) (now (board .entry)) ⌝ }
+{
+    if is_library(file_type(board)) {
+        return verdict(17, 0, 1);
+    }
+    if !is_library(file_type(library)) {
+        return verdict(17, 0, 2);
+    }
+    placed(library, board)
+}
+
+// An accepted board, with a library that may be refused.
+fn with_library(library: &[u8], board: &[u8]) -> Verdict
+    requires { ⌜ length (now board) ≤ limit ⌝ }
+    ensures { λ r. ⌜ r ≡ withLibrary (now (library .entry)) (now (board .entry)) ⌝ }
+{
+    let q = whole::check(library);
+    if q.number != 0 {
+        return refused(q, 2);
+    }
+    matched(library, board)
+}
+
+// A board or panel judged against a library; the count is that of its placements, or the number of the first that lacks its entry.
+pub fn judge(board: &[u8], library: &[u8]) -> Verdict
+    ensures { λ r. ⌜ r ≡ judgeReply (now (board .entry)) (now (library .entry)) ⌝ }
+{
+    let r = whole::check(board);
+    if r.number != 0 {
+        return refused(r, 1);
+    }
+    with_library(library, board)
+}
