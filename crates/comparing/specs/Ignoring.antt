@@ -5,9 +5,13 @@ use lib.Dec.{eqb}
 use lib.ListN.{getD, replicate}
 use Rattle.comparing.specs.declared.Ignored.{Ignored}
 
+-- how many fields a record has at most
+abbrev pub mostFields : ℕ
+mostFields = 7
+
 -- no field
 abbrev pub nothing : Ignored
-nothing = record { kind = 0; fields = replicate 7 false }
+nothing = record { kind = 0; fields = replicate mostFields false }
 
 -- field i, from 0, of the records of kind k
 unfoldable pub ignoredAt : Ignored → ℕ → ℕ → Bool

@@ -1,5 +1,4 @@
 // Two records by their rows, each in its own file: the same kind, and each field by its type.
-use crate::FIELDS;
 use crate::Ignored;
 use form::FieldType;
 use form::Rules;
@@ -11,7 +10,7 @@ ghost use lib.ListN.{length, take, drop};
 ghost use Rattle.form.specs.Compare.{sameBytes};
 ghost use Rattle.form.specs.Letters.{widthOf};
 ghost use Rattle.lines.specs.Rows.{width};
-ghost use Rattle.comparing.specs.Ignoring.{ignoredAt};
+ghost use Rattle.comparing.specs.Ignoring.{mostFields, ignoredAt};
 ghost use Rattle.comparing.specs.SameRows.{sameTexts, holdsBytes, sameField, agreesAt, sameFields, sameRow};
 
 // A column as a place: no more than a largest one.
@@ -92,7 +91,7 @@ fn same_field(
 
 // Whether a comparison leaves out field i of the records of a kind.
 fn is_ignored(g: Ignored, kind: u64, i: usize) -> bool
-    requires { ⌜ i < 7 ⌝ }
+    requires { ⌜ i < mostFields ⌝ }
     ensures { λ r. ⌜ r ≡ ignoredAt g kind i ⌝ }
 {
     let fields = g.fields;
@@ -114,7 +113,7 @@ fn agrees_at(
     y: [i64; WIDTH],
     at: usize,
 ) -> bool
-    requires { ⌜ (i < 7) × (at + widthOf t ≤ width) ⌝ }
+    requires { ⌜ (i < mostFields) × (at + widthOf t ≤ width) ⌝ }
     ensures { λ r. ⌜ r ≡ agreesAt g kind i t (now (first .entry)) (drop at x) (now (second .entry)) (drop at y) ⌝ }
 {
     if is_ignored(g, kind, i) {
