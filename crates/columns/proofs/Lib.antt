@@ -1,2 +1,3 @@
 pub mod ColumnLaws
 pub mod FitLaws
+pub mod RowRecords
