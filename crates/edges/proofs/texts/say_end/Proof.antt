@@ -1,12 +1,12 @@
--- `edges::say_end` meets its contract. Assumes nothing.
+-- `edges::texts::say_end` meets its contract. Assumes nothing.
 use Prim.Native.Nat.{ℕ}
 use mathlib.Core.Path.{_≡_, ap}
 use mathlib.Core.List.{List}
 use borrow.Author.Needs.{needs}
 use Rattle.text.specs.Lines.{lineEnd}
 use Rattle.text.specs.declared.LineEnd.{LineEnd}
-use Rattle.edges.proofs.say_end.Statement.{statement}
-use Rattle.edges.proofs.say_end.Tie as tie
+use Rattle.edges.proofs.texts.say_end.Statement.{statement}
+use Rattle.edges.proofs.texts.say_end.Tie as tie
 
 next-is : (s : List ℕ) (r : LineEnd) → r ≡ lineEnd s → r .next ≡ lineEnd s .next
 next-is s r e = ap (λ (x : LineEnd). x .next) e

@@ -1,4 +1,4 @@
--- `edges::say_ends` ends: each line is behind the one before it. Assumes nothing.
+-- `edges::texts::say_ends` ends: each line is behind the one before it. Assumes nothing.
 use Prim.Native.Nat.{ℕ, _+_, _-_, _^_, _≤_, _<_}
 use mathlib.Core.Path.{_≡_}
 use mathlib.Core.List.{List}
@@ -10,8 +10,8 @@ use lib.ListN.{length, take, drop, length-drop}
 use Rattle.text.specs.Lines.{lineEnd}
 use Rattle.text.proofs.Lists.{rest}
 use Rattle.text.proofs.LineLaws.{line-inside}
-use Rattle.edges.proofs.say_ends.Statement.{statement}
-use Rattle.edges.proofs.say_ends.Tie as tie
+use Rattle.edges.proofs.texts.say_ends.Statement.{statement}
+use Rattle.edges.proofs.texts.say_ends.Tie as tie
 
 abbrev Inv-loop : tie.InvT-loop
 Inv-loop f at₀ at = at ≤ length f
