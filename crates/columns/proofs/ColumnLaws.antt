@@ -6,9 +6,9 @@ use mathlib.Core.Bool.{Bool, true, false, not, _&&_, _||_}
 use native.Mathlib.Numerals.{add-one}
 use native.Mathlib.Omega.{arith}
 use mir.Syntax.{w64}
-use mir.Val.{Fits, SFits, toZ, ofZ}
+use mir.Val.{Fits, SFits}
 use mir.ValLaws.{toZ-ofZ}
-use borrow.Author.Tests.{not-true, not-false, lt-leb, le-leb, leb-true, eq-eqb, ne-eqb}
+use borrow.Author.Tests.{not-true, not-false, lt-leb, le-leb, leb-true, ne-eqb}
 use lib.Dec.{leb, eqb}
 use lib.IntN.{ℤ, pos, natAbs}
 use lib.ListN.{length, take, drop, getD, drop-of-length-le, List·getD-eq-default}
@@ -18,6 +18,7 @@ use Rattle.text.proofs.Lists.{and-left, and-right, all-more, all-stop, all-over
 use Rattle.measure.specs.Limits.{largestLength, largestInteger}
 use Rattle.measure.specs.Signs.{below}
 use Rattle.measure.specs.Dates.{isDate}
+use Rattle.measure.proofs.SignLaws.{back}
 use Rattle.form.specs.Values.{text}
 use Rattle.form.specs.Names.{wordsOf}
 use Rattle.form.specs.Compare.{sameBytes, wordAt}
@@ -31,11 +32,9 @@ use Rattle.form.specs.declared.FieldType.{FieldType}
 use Rattle.form.specs.declared.FieldType.the-variants.{Text as T, Reference as Ref, Date as D, Integer as I, Number as N, Word as W}
 use Rattle.loops.specs.Loops.{eqZ}
 use Rattle.form.proofs.RowLaws.{word-held}
+use Rattle.spelling.proofs.WordSpelling.{same-refl}
 use Rattle.reading.specs.Judging.{columnAt}
 use Rattle.columns.specs.Columns.{liesIn, rangeFits, integerFits, numberFits, wordFits, fieldFits, columnFits, allZero}
-
-abbrev back : ℤ → ℤ
-back z = toZ w64 (ofZ w64 z)
 
 -- a byte of a text
 pub text-byte : (b : ℕ) (x : Bool) → x ≡ permitted b → (x && not (eqb b 34)) ≡ textByte b
@@ -106,14 +105,9 @@ pub column-past : (row : List ℤ) (i : ℕ) → length row ≡ 10 → 10 ≤ i 
 column-past row i e h = sym (List·getD-eq-default row (pos 0) {n = i} (omega arith))
 
 -- bytes at a field
-same-self : (s : List ℕ) → sameBytes s s ≡ true
-unfolding sameBytes
-same-self [] = refl
-same-self (b ∷ s) = rw (eq-eqb b b refl) (same-self s)
-
 text-good : (t : FieldType) (s : List ℕ) → goodText t s ≡ allOf textByte s
 unfolding goodText meaning
-text-good t s = rw (same-self s) (and-true (allOf textByte s))
+text-good t s = rw (same-refl s) (and-true (allOf textByte s))
   where
     and-true : (b : Bool) → (b && true) ≡ b
     and-true true = refl

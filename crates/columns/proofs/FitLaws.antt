@@ -6,13 +6,14 @@ use mathlib.Core.Bool.{Bool, true, false, not, _&&_}
 use native.Mathlib.Numerals.{add-one}
 use native.Mathlib.Omega.{arith}
 use mir.Syntax.{w64}
-use mir.Val.{Fits, SFits, toZ, ofZ}
+use mir.Val.{Fits, SFits}
 use mir.ValLaws.{toZ-ofZ}
 use borrow.Author.Tests.{not-true, not-false}
 use lib.IntN.{ℤ, natAbs}
 use lib.ListN.{length, drop, drop-of-length-le}
 use lib.Seq.{drop-cons}
 use Rattle.measure.specs.Signs.{below}
+use Rattle.measure.proofs.SignLaws.{back}
 use Rattle.form.specs.Layouts.{typesOf}
 use Rattle.form.specs.Letters.{widthOf, widths, typeAt, isKind}
 use Rattle.form.specs.declared.Context.{Context}
@@ -76,9 +77,6 @@ module _ (c : Context) (kind : ℕ) (bytes : List ℕ) (row : List ℤ) (n i k :
       fit-fits w g = let a : w ≡ widthOf (typeAt (typesOf (c .rules) kind) i) = g ∙ ap widthOf e in omega (arith, r .columns, wide-here, a)
 
 -- a row, by its kind
-abbrev back : ℤ → ℤ
-back z = toZ w64 (ofZ w64 z)
-
 module _ (c : Context) (bytes : List ℕ) (row : List ℤ) (x : Bool) (fz : SFits w64 (columnAt row 0)) (e : x ≡ below (back (columnAt row 0))) where
   sign : x ≡ below (columnAt row 0)
   sign = e ∙ rw (toZ-ofZ w64 (columnAt row 0) fz)

@@ -5,7 +5,7 @@ use mathlib.Core.List.{List}
 use mathlib.Core.Bool.{Bool, true, false}
 use native.Mathlib.Omega.{arith}
 use mir.Syntax.{w64}
-use mir.Val.{SFits, toZ, ofZ}
+use mir.Val.{SFits}
 use mir.ValLaws.{toZ-ofZ}
 use borrow.Author.Tests.{ltb-true, ltb-false, eq-eqb, ne-eqb}
 use lib.Dec.{ltb}
@@ -13,15 +13,12 @@ use lib.IntN.{ℤ, natAbs}
 use lib.ListN.{length, take, drop, getD, length-drop}
 use lib.Seq.{take-all}
 use Rattle.text.proofs.Lists.{at-end}
+use Rattle.measure.proofs.SignLaws.{back}
 use Rattle.form.specs.Compare.{sameBytes}
 use Rattle.reading.proofs.NameLaws.{smaller-first, smaller-second}
 use Rattle.comparing.specs.declared.Ignored.{Ignored}
 use Rattle.comparing.specs.Ignoring.{ignoredAt}
 use Rattle.comparing.specs.SameRows.{sameTexts}
-
--- a number as it comes back from 64 bits
-abbrev pub back : ℤ → ℤ
-back z = toZ w64 (ofZ w64 z)
 
 -- a column as a place
 module _ (z : ℤ) (n most : ℕ) (f : SFits w64 z) (e : n ≡ natAbs (back z)) where

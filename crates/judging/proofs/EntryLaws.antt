@@ -4,10 +4,11 @@ use mathlib.Core.Path.{_≡_, refl, sym, ap, _∙_}
 use mathlib.Core.List.{List}
 use mathlib.Core.Bool.{Bool, true, false, not, _&&_, true≢false, false≢true}
 use mir.Syntax.{w64}
-use mir.Val.{SFits, toZ, ofZ}
+use mir.Val.{SFits}
 use mir.ValLaws.{toZ-ofZ}
 use lib.IntN.{ℤ, pos}
 use lib.ListN.{length}
+use Rattle.measure.proofs.SignLaws.{back}
 use Rattle.form.specs.Names.{boardWord}
 use Rattle.loops.specs.Loops.{eqZ}
 use Rattle.reading.specs.declared.Found.{Found}
@@ -18,9 +19,6 @@ use Rattle.reading.specs.Judging.{columnAt}
 use Rattle.reading.specs.Walks.{limit, begun, turnOf, stopsBy, isRow, Steady, Trace, traceBy, traceAt}
 use Rattle.reading.proofs.WalkLaws.{Going, going-start, going-trace, going-less, going-more, going-end}
 use Rattle.judging.specs.Entries.{noReference, textIs, sameIn, sameEntry, refers, isOf, isEntry, entryIn, hasEntry, lacksEntry, lacks}
-
-abbrev back : ℤ → ℤ
-back z = toZ w64 (ofZ w64 z)
 
 abbrev column : List ℤ → ℕ → ℤ
 column row i = back (columnAt row i)

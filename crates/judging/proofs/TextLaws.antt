@@ -6,7 +6,7 @@ use mathlib.Core.Bool.{Bool, true, false}
 use native.Mathlib.Nat.{min-comm, min-eq-left, min-le-right}
 use native.Mathlib.Omega.{arith}
 use mir.Syntax.{w64}
-use mir.Val.{SFits, toZ, ofZ}
+use mir.Val.{SFits}
 use mir.ValLaws.{toZ-ofZ}
 use borrow.Author.Tests.{ltb-true, ltb-false}
 use lib.Dec.{ltb}
@@ -14,6 +14,7 @@ use lib.IntN.{ℤ, natAbs}
 use lib.ListN.{length, take, drop, length-drop}
 use lib.Seq.{take-all}
 use Rattle.text.proofs.Lists.{at-end}
+use Rattle.measure.proofs.SignLaws.{back}
 use Rattle.form.specs.Compare.{sameBytes}
 use Rattle.reading.specs.Names.{textAt}
 use Rattle.judging.specs.Entries.{textIs, sameIn}
@@ -55,9 +56,6 @@ module _ (file : List ℕ) (p a : ℕ) (e : a ≡ min p (length file)) where
         let y : length file - a ≡ length (drop a file) = sym (length-drop a file) in
         ap (λ (k : ℕ). take k (drop a file)) (x ∙ f ∙ ap (min q) y) ∙ take-least q (drop a file)
         ∙ ap (λ (k : ℕ). take q (drop k file)) e ∙ ap (take q) (drop-least p file)
-
-abbrev back : ℤ → ℤ
-back z = toZ w64 (ofZ w64 z)
 
 -- the text that a start and a length name
 text-part : (file : List ℕ) (i j : ℤ) (p q a n : ℕ) → p ≡ natAbs (back i) → q ≡ natAbs (back j) → SFits w64 i → SFits w64 j

@@ -10,6 +10,7 @@ use mir.ValLaws.{toZ-ofZ}
 use borrow.Author.Tests.{eqb-true, eqb-false, eq-eqb, ne-eqb}
 use lib.Dec.{eqb}
 use lib.IntN.{ℤ, pos, negsuc, sucℤ, _+ℤ_, +ℤ-sucℤ, +ℤ-idr}
+use Rattle.measure.proofs.SignLaws.{back}
 use Rattle.loops.specs.Loops.{eqZ, firstLabel, placeAt, samePlace, goesOn, closes, reached, loopAfter}
 use Rattle.loops.specs.Answers.{looped, turnsBy, begunBy, wentOn, nextLoop, secondBy, afterBack}
 use Rattle.loops.specs.declared.Place.{Place}
@@ -38,10 +39,6 @@ bits-same a b fa fb = go (eqZ a b) refl
     go : (t : Bool) → eqZ a b ≡ t → eqb (ofZ w64 a) (ofZ w64 b) ≡ t
     go true e = eq-eqb (ofZ w64 a) (ofZ w64 b) (ap (ofZ w64) (eqZ-true a b e))
     go false e = ne-eqb (ofZ w64 a) (ofZ w64 b) (λ h. let z : a ≡ b = sym (toZ-ofZ w64 a fa) ∙ ap (toZ w64) h ∙ toZ-ofZ w64 b fb in true≢false (sym (rw z (eqZ-self b)) ∙ e))
-
--- a number that fits, as it is read back from its bits
-abbrev back : ℤ → ℤ
-back z = toZ w64 (ofZ w64 z)
 
 pub back-same : (a b : ℤ) (r : Bool) → SFits w64 a → SFits w64 b → r ≡ eqZ (back a) (back b) → r ≡ eqZ a b
 back-same a b r fa fb e = rw e (rw (toZ-ofZ w64 a fa, toZ-ofZ w64 b fb))

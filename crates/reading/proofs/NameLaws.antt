@@ -6,7 +6,7 @@ use mathlib.Core.Bool.{Bool, true, false, _&&_, _||_, true≢false, false≢true
 use native.Mathlib.Nat.{min-comm, min-eq-left, min-le-right}
 use native.Mathlib.Omega.{arith}
 use mir.Syntax.{w64}
-use mir.Val.{SFits, toZ, ofZ}
+use mir.Val.{SFits}
 use mir.ValLaws.{toZ-ofZ}
 use borrow.Author.Tests.{ltb-true, ltb-false, lt-ltb, le-ltb}
 use lib.Dec.{ltb}
@@ -14,6 +14,7 @@ use lib.IntN.{ℤ, pos, natAbs}
 use lib.ListN.{length, take, drop, length-drop}
 use lib.Seq.{take-all}
 use Rattle.text.proofs.Lists.{at-end}
+use Rattle.measure.proofs.SignLaws.{back}
 use Rattle.form.specs.Compare.{sameBytes}
 use Rattle.loops.specs.Loops.{eqZ}
 use Rattle.loops.proofs.LoopLaws.{same-as}
@@ -63,9 +64,6 @@ module _ (file : List ℕ) (p a : ℕ) (e : a ≡ min p (length file)) where
         let y : length file - a ≡ length (drop a file) = sym (length-drop a file) in
         ap (λ (k : ℕ). take k (drop a file)) (f ∙ ap (min q) y) ∙ take-least q (drop a file)
         ∙ ap (λ (k : ℕ). take q (drop k file)) e ∙ ap (take q) (drop-least p file)
-
-abbrev back : ℤ → ℤ
-back z = toZ w64 (ofZ w64 z)
 
 -- two texts
 pub parts-same : (file : List ℕ) (a n b m : ℕ) (x : Bool) → x ≡ sameBytes (take (a + n - a) (drop a file)) (take (b + m - b) (drop b file))

@@ -31,7 +31,7 @@ use Rattle.form.specs.declared.FieldType.{FieldType}
 use Rattle.form.specs.declared.FieldType.the-variants.{Text as T, Reference as Ref, Date as D, Integer as I, Number as N, Word as W}
 use Rattle.spelling.specs.RecordRules.{SpellsField, asText, asReference, asDate, asInteger, asNumber, asWord}
 use Rattle.spelling.specs.Canonical.{noSpace, needsQuotes, versionText, printedNumber, canonicalField}
-use Rattle.spelling.proofs.WordSpelling.{same-eq}
+use Rattle.form.proofs.KindLaws.{same-eq}
 use Rattle.spelling.proofs.BareBytes.{tight, safe, all-zip, tight-text, tight-number, safe-number, tight-integer, safe-integer, tight-date, safe-date}
 use Rattle.spelling.proofs.Tables.{words-stand, word-listed}
 

@@ -22,7 +22,8 @@ use Rattle.form.specs.declared.FieldType.{FieldType}
 use Rattle.spelling.specs.WordRules.{AnyCase}
 use Rattle.spelling.specs.RecordRules.{SpellsFields, isData, SpellsLine, withKeyword, withProp, asData}
 use Rattle.spelling.proofs.Logic.{refused-good, cond-good}
-use Rattle.spelling.proofs.WordSpelling.{same-eq, eq-same, case-folds, folds-case, key-eq}
+use Rattle.form.proofs.KindLaws.{same-eq}
+use Rattle.spelling.proofs.WordSpelling.{eq-same, case-folds, folds-case, key-eq}
 use Rattle.spelling.proofs.ValueSpelling.{values-sound, values-complete}
 
 -- What `lineAs` answers, as a property of the answer

@@ -6,25 +6,16 @@ use mathlib.Core.List.{List, [], _∷_}
 use mathlib.Core.Option.{Option, none, some}
 use mathlib.Core.Bool.{Bool, true, false, cond, not, _&&_, _||_, false≢true}
 use native.Mathlib.Omega.{arith}
-use borrow.Author.Tests.{eqb-true, eq-eqb, leb-true, le-leb, not-true}
-use lib.Dec.{leb, eqb}
+use borrow.Author.Tests.{eq-eqb, leb-true, le-leb, not-true}
+use lib.Dec.{leb}
 use Rattle.text.proofs.Lists.{and-left, and-right}
 use Rattle.measure.proofs.Tests.{cond-cases}
 use Rattle.form.specs.Compare.{sameBytes, isCapital, isSmall, folded, wordKey, sameWord, up, placeOf}
+use Rattle.form.proofs.KindLaws.{same-eq}
 use Rattle.spelling.specs.WordRules.{Listed, here, there, AnyCase, end, same, small}
 use Rattle.spelling.proofs.Logic.{none-some}
 
 -- Equal bytes
-pub same-eq : (s t : List ℕ) → sameBytes s t ≡ true → s ≡ t
-unfolding sameBytes
-same-eq [] [] h = refl
-same-eq [] (b ∷ t) h = absurd (false≢true h)
-same-eq (a ∷ s) [] h = absurd (false≢true h)
-same-eq (a ∷ s) (b ∷ t) h =
-    let x = eqb-true a b (and-left (eqb a b) _ h) in
-    let y = same-eq s t (and-right (eqb a b) _ h) in
-    cc
-
 pub same-refl : (s : List ℕ) → sameBytes s s ≡ true
 unfolding sameBytes
 same-refl [] = refl
