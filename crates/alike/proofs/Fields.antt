@@ -86,18 +86,18 @@ module _ (f h : List ℕ) (zs us : List ℤ) (k : ℕ) where
   fields-are i none none = refl
   fields-are i (aNumber {t = t} p x) (aNumber q y) = rw (none-ignored k i, number-held t p, number-wide t p, fields-are (i + 1) x y)
   fields-are i (aNumber p x) (aWord y) = absurd (false≢true p)
-  fields-are i (aNumber p x) (aDate y) = absurd (false≢true p)
-  fields-are i (aNumber {t = t} p x) (aText q y) = absurd (not-both t p q)
+  fields-are i (aNumber p x) (aDate n y) = absurd (false≢true p)
+  fields-are i (aNumber {t = t} p x) (aText q n y) = absurd (not-both t p q)
   fields-are i (aWord x) (aNumber q y) = absurd (false≢true q)
   fields-are i (aWord x) (aWord y) = rw (none-ignored k i, fields-are (i + 1) x y)
-  fields-are i (aWord x) (aText q y) = absurd (false≢true q)
-  fields-are i (aDate x) (aNumber q y) = absurd (false≢true q)
-  fields-are i (aDate x) (aDate y) = rw (none-ignored k i, fields-are (i + 1) x y)
-  fields-are i (aDate x) (aText q y) = absurd (false≢true q)
-  fields-are i (aText {t = t} p x) (aNumber q y) = absurd (not-both t q p)
-  fields-are i (aText p x) (aWord y) = absurd (false≢true p)
-  fields-are i (aText p x) (aDate y) = absurd (false≢true p)
-  fields-are i (aText {t = t} p x) (aText q y) = rw (none-ignored k i, text-held t p, text-wide t p, text-counts t _ p, text-counts t _ p, fields-are (i + 1) x y)
+  fields-are i (aWord x) (aText q n y) = absurd (false≢true q)
+  fields-are i (aDate m x) (aNumber q y) = absurd (false≢true q)
+  fields-are i (aDate m x) (aDate n y) = rw (none-ignored k i, fields-are (i + 1) x y)
+  fields-are i (aDate m x) (aText q n y) = absurd (false≢true q)
+  fields-are i (aText {t = t} p m x) (aNumber q y) = absurd (not-both t q p)
+  fields-are i (aText p m x) (aWord y) = absurd (false≢true p)
+  fields-are i (aText p m x) (aDate n y) = absurd (false≢true p)
+  fields-are i (aText {t = t} p m x) (aText q n y) = rw (none-ignored k i, text-held t p, text-wide t p, text-counts t _ p, text-counts t _ p, fields-are (i + 1) x y)
 
 -- rows compare as the records whose values they hold
 module _ (f h : List ℕ) (x y : List ℤ) where

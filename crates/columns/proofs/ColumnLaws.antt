@@ -139,9 +139,9 @@ module _ (c : Context) (t : FieldType) (s : List ℕ) where
   holds-word l h = rw h
 
 -- a range that lies in the bytes
-liesIn-ends : (n : ℕ) (a l : ℤ) → liesIn n a l ≡ true → natAbs a + natAbs l ≤ n
+pub lies-ends : (n : ℕ) (a l : ℤ) → liesIn n a l ≡ true → natAbs a + natAbs l ≤ n
 unfolding liesIn
-liesIn-ends n a l h =
+lies-ends n a l h =
     let k = and-right (not (below a || below l)) (leb (natAbs l) n && leb (natAbs a) (n - natAbs l)) h in
     let p = leb-true (natAbs l) n (and-left (leb (natAbs l) n) (leb (natAbs a) (n - natAbs l)) k) in
     let q = leb-true (natAbs a) (n - natAbs l) (and-right (leb (natAbs l) n) (leb (natAbs a) (n - natAbs l)) k) in
@@ -163,7 +163,7 @@ module _ (c : Context) (t : FieldType) (bytes : List ℕ) (a l : ℤ) (x : Bool)
     long-is = j ∙ ap natAbs (toZ-ofZ w64 l fl)
 
     pub range-end : p + n ≤ length bytes
-    range-end = omega (arith, liesIn-ends (length bytes) a l (sym lies-is ∙ not-false x h), first-is, long-is)
+    range-end = omega (arith, lies-ends (length bytes) a l (sym lies-is ∙ not-false x h), first-is, long-is)
 
     pub range-start : p ≤ length bytes
     range-start = omega (arith, range-end)

@@ -1,3 +1,4 @@
 pub mod ColumnLaws
 pub mod FitLaws
 pub mod RowRecords
+pub mod HeldRecords

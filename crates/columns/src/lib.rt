@@ -13,7 +13,6 @@ ghost use Prim.Native.Nat.{_<_};
 ghost use lib.ListN.{drop};
 ghost use Rattle.text.specs.Bytes.{allOf};
 ghost use Rattle.form.specs.Values.{text};
-ghost use Rattle.form.specs.Letters.{widthOf};
 ghost use Rattle.form.specs.Layouts.{typesOf};
 ghost use Rattle.form.specs.Fits.{textByte, isBoard, barred, fits};
 ghost use Rattle.reading.specs.Judging.{columnAt};
@@ -145,27 +144,13 @@ fn field_fits(c: Context, t: FieldType, bytes: &[u8], a: i64, b: i64) -> bool
 }
 
 // A column of a row, 0 past its last.
-fn column_at(row: [i64; WIDTH], i: usize) -> i64
+pub fn column_at(row: [i64; WIDTH], i: usize) -> i64
     ensures { λ r. ⌜ r ≡ columnAt row i ⌝ }
 {
     if i < WIDTH {
         return row[i];
     }
     0
-}
-
-// How many columns a field fills.
-fn width_of(t: FieldType) -> usize
-    ensures { λ r. ⌜ r ≡ widthOf t ⌝ }
-{
-    match t {
-        FieldType::Text => 2,
-        FieldType::Reference => 2,
-        FieldType::Date => 2,
-        FieldType::Integer => 1,
-        FieldType::Number(_) => 1,
-        FieldType::Word(_) => 1,
-    }
 }
 
 // Whether a row holds a value of a type from a column on.
@@ -204,7 +189,7 @@ fn fields_fit(c: Context, kind: u64, bytes: &[u8], row: [i64; WIDTH]) -> bool
         if !column_fits(c, t, bytes, row, k) {
             return false;
         }
-        k += width_of(t);
+        k += form::layouts::width_of(t);
         i += 1;
     }
     is_zero_from(row, k)

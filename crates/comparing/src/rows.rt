@@ -57,20 +57,6 @@ fn holds_bytes(t: FieldType) -> bool
     }
 }
 
-// How many columns a field of a type fills.
-fn column_len(t: FieldType) -> usize
-    ensures { λ r. ⌜ r ≡ widthOf t ⌝ }
-{
-    match t {
-        FieldType::Text => 2,
-        FieldType::Reference => 2,
-        FieldType::Date => 2,
-        FieldType::Integer => 1,
-        FieldType::Number(_) => 1,
-        FieldType::Word(_) => 1,
-    }
-}
-
 // Whether two records have the same in a field of a type, which begins at a column.
 fn same_field(
     t: FieldType,
@@ -141,7 +127,7 @@ fn same_fields(
         if !agrees_at(g, kind, i, t, first, x, second, y, at) {
             return false;
         }
-        at += column_len(t);
+        at += form::layouts::width_of(t);
         i += 1;
     }
     true

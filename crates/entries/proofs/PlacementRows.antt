@@ -123,9 +123,9 @@ placement-columns : {file : List ℕ} (zs : List ℤ) {cs : List ℤ} {vs : List
     → placementAt file (pos 131 ∷ (cs ++ zs)) ≡ placementIn (record { kind = 131; values = vs })
 unfolding meaning
 placement-columns zs (aNumber h m) = absurd (false≢true h)
-placement-columns zs (aText h (aNumber i m)) = absurd (false≢true i)
-placement-columns zs (aText h (aText i (aNumber j m))) = absurd (false≢true j)
-placement-columns zs (aText h (aText i (aText j none))) = refl
+placement-columns zs (aText h p (aNumber i m)) = absurd (false≢true i)
+placement-columns zs (aText h p (aText i q (aNumber j m))) = absurd (false≢true j)
+placement-columns zs (aText h p (aText i q (aText j r none))) = refl
 
 placement-held : (file : List ℕ) (k : ℕ) (x : List ℤ) (vs : List Value) → k ≡ 131 → Holds file k (typesOf Idf3 k) x vs → placementAt file x ≡ placementIn (record { kind = k; values = vs })
 placement-held file k x vs e h =

@@ -100,7 +100,7 @@ module _ (v : Rules) (st : State) where
       title-moves d false e = title-only v st k (typeIn its) (typeInRow row) d m e
 
       -- so the row does what the record does
-      row-steps : WellFormed (under v (typeAt st)) its → judge v [] st its ≡ stepped v st k (typeInRow row) (pointIn row)
+      pub row-steps : WellFormed (under v (typeAt st)) its → judge v [] st its ≡ stepped v st k (typeInRow row) (pointIn row)
       unfolding stepped
       row-steps w =
           judge-fresh its ∙ advance-stepped v st its w

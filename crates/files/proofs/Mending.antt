@@ -64,16 +64,16 @@ spelled-in : {c : Context} {r : Rec} {l : List ℕ} → SpellsRecord c r l → A
 spelled-in (asLine e p) = all-map permitted-in (line-first p .clean)
 
 module _ (v : Rules) where
-  abbrev canonicalLines : List Rec → List (List ℕ)
+  abbrev pub canonicalLines : List Rec → List (List ℕ)
   canonicalLines [] = []
   canonicalLines (r ∷ rs) = canonicalRecord v r ∷ canonicalLines rs
 
   module _ (u : FileType) where
-    canonical-lines : {rs : List Rec} → Every (λ r. WellFormed (under v u) r) rs → Lines (canonicalLines rs)
+    pub canonical-lines : {rs : List Rec} → Every (λ r. WellFormed (under v u) r) rs → Lines (canonicalLines rs)
     canonical-lines every.none = no-line
     canonical-lines (every.one {r} h f) = and-line (spelled-in (canonical-spells (under v u) r h)) (canonical-lines f)
 
-    canonical-spell : {rs : List Rec} {w : Where} → Every (λ r. WellFormed (under v u) r) rs → SpellsLines (under v u) w rs (canonicalLines rs)
+    pub canonical-spell : {rs : List Rec} {w : Where} → Every (λ r. WellFormed (under v u) r) rs → SpellsLines (under v u) w rs (canonicalLines rs)
     canonical-spell every.none = end
     canonical-spell (every.one {r} h f) = line (canonical-spells (under v u) r h) (canonical-spell f)
 

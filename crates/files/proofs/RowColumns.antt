@@ -90,22 +90,22 @@ module _ {file : List ℕ} (zs : List ℤ) where
   number-column (aNumber k m) zero (suc i) h e = absurd (omega arith)
   number-column (aNumber {t = t} {ts = ts} k m) (suc n) (suc i) h e = number-column m n i (omega arith) (both (isNumber t) (numbersTo n ts) e .1)
   number-column (aWord {l = l} {ts = ts} m) n i h e = absurd (false≢true (number-first n (W l) ts e))
-  number-column (aDate {ts = ts} m) n i h e = absurd (false≢true (number-first n D ts e))
-  number-column (aText {t = t} {ts = ts} k m) n i h e = absurd (number-no-text t (number-first n t ts e) k)
+  number-column (aDate {ts = ts} j m) n i h e = absurd (false≢true (number-first n D ts e))
+  number-column (aText {t = t} {ts = ts} k j m) n i h e = absurd (number-no-text t (number-first n t ts e) k)
 
   word-column : {ts : List FieldType} {cs : List ℤ} {vs : List Value} → Means file ts cs vs → wordFirst ts ≡ true → getD (cs ++ zs) 0 (pos 0) ≡ pos (wordOf (getD vs 0 (word 0)))
   word-column none e = absurd (false≢true e)
   word-column (aNumber {t = t} k m) e = absurd (word-alone t e .0 k)
   word-column (aWord m) e = refl
-  word-column (aDate m) e = absurd (false≢true e)
-  word-column (aText {t = t} k m) e = absurd (word-alone t e .1 k)
+  word-column (aDate j m) e = absurd (false≢true e)
+  word-column (aText {t = t} k j m) e = absurd (word-alone t e .1 k)
 
   name-columns : {ts : List FieldType} {cs : List ℤ} {vs : List Value} → Means file (T ∷ T ∷ ts) cs vs
       → nameAt file (pos 0 ∷ (cs ++ zs)) ≡ record { geometry = bytesOf (getD vs 0 (word 0)); number = bytesOf (getD vs 1 (word 0)) }
   unfolding meaning
   name-columns (aNumber h m) = absurd (false≢true h)
-  name-columns (aText h (aNumber i m)) = absurd (false≢true i)
-  name-columns (aText h (aText i m)) = refl
+  name-columns (aText h j (aNumber i m)) = absurd (false≢true i)
+  name-columns (aText h j (aText i l m)) = refl
 
 -- What a row says of its record
 module _ (file : List ℕ) (v : Rules) (k : ℕ) (row : List ℤ) (vs : List Value) (h : Holds file k (typesOf v k) row vs) where

@@ -58,7 +58,7 @@ module _ (file : List ℕ) where
   rows-told rs st e = subst (Told-in (rowsOf file)) e (follows-rows (trace-follows file) [])
 
 -- each row has its width
-row-wide : {file : List ℕ} {k : ℕ} {ts : List FieldType} {x : List ℤ} {vs : List Value} → Holds file k ts x vs → length x ≡ width
+pub row-wide : {file : List ℕ} {k : ℕ} {ts : List FieldType} {x : List ℤ} {vs : List Value} → Holds file k ts x vs → length x ≡ width
 row-wide h = rw (h .is) (omega (arith, h .ten, length-append (h .columns) (replicate (h .left) (pos 0)), length-replicate (h .left) (pos 0)))
 
 pub rows-long : {file : List ℕ} {rs : List Rec} {xs : List ℤ} → RowsMean file rs xs → length xs ≡ width * length rs
@@ -68,10 +68,10 @@ rows-long (rows.row {x = x} {xs = xs} h m) = omega (arith, row-wide h, rows-long
 -- One list of rows holds one list of records
 
 -- columns of one width in front of others
-columns-one : (cs ds es gs : List ℤ) → length cs ≡ length ds → cs ++ es ≡ ds ++ gs → cs ≡ ds
+pub columns-one : (cs ds es gs : List ℤ) → length cs ≡ length ds → cs ++ es ≡ ds ++ gs → cs ≡ ds
 columns-one cs ds es gs h e = sym (take-at cs es (length cs) refl) ∙ ap (take (length cs)) e ∙ take-at ds gs (length cs) (sym h)
 
-rest-one : (cs ds es gs : List ℤ) → length cs ≡ length ds → cs ++ es ≡ ds ++ gs → es ≡ gs
+pub rest-one : (cs ds es gs : List ℤ) → length cs ≡ length ds → cs ++ es ≡ ds ++ gs → es ≡ gs
 rest-one cs ds es gs h e = sym (drop-at cs es (length cs) refl) ∙ ap (drop (length cs)) e ∙ drop-at ds gs (length cs) (sym h)
 
 kind-one : {file : List ℕ} {k j : ℕ} {ts us : List FieldType} {x : List ℤ} {vs ws : List Value} → Holds file k ts x vs → Holds file j us x ws → k ≡ j

@@ -8,7 +8,7 @@ ghost use Prim.Native.Nat.{_+_, _<_};
 ghost use lib.ListN.{length};
 ghost use Rattle.form.specs.Layouts.{typesOf};
 ghost use Rattle.form.specs.Kinds.{sectionOf};
-ghost use Rattle.form.specs.Letters.{letterAt, rowOf, isKind, typeAt, typeNamed, widths};
+ghost use Rattle.form.specs.Letters.{letterAt, rowOf, isKind, typeAt, typeNamed, widthOf, widths};
 
 // Letters of types: T text, R reference, D date, I integer; V version, L length, N length from zero on, P length above zero,
 // A included angle, r rotation; words: f file types, u units, o owners, t faces, s sides, l layers, p plates, x statuses.
@@ -121,6 +121,20 @@ pub fn column_count(v: Rules, kind: u64) -> usize
 {
     let row = row_of(v, kind);
     (row[1] - 48) as usize
+}
+
+// How many columns of a row a field fills.
+pub fn width_of(t: FieldType) -> usize
+    ensures { λ r. ⌜ r ≡ widthOf t ⌝ }
+{
+    match t {
+        FieldType::Text => 2,
+        FieldType::Reference => 2,
+        FieldType::Date => 2,
+        FieldType::Integer => 1,
+        FieldType::Number(_) => 1,
+        FieldType::Word(_) => 1,
+    }
 }
 
 // The type of a letter.

@@ -5,7 +5,7 @@ use mathlib.Core.List.{List, _++_}
 use mathlib.Core.Bool.{true, false≢true}
 use native.Mathlib.Omega.{arith}
 use lib.IntN.{ℤ}
-use lib.ListN.{length, take, drop, length-drop, take-append-drop}
+use lib.ListN.{length, take, drop, length-append, length-drop, take-append-drop}
 use lib.Seq.{drop-append-add, drop-append-le, take-append-le, length-take-le}
 use Rattle.form.specs.Values.{Value}
 use Rattle.form.specs.Letters.{widthOf, widths}
@@ -26,18 +26,18 @@ pub means-one : {file : List ℕ} {ts : List FieldType} {cs : List ℤ} {vs us :
 means-one none none = refl
 means-one (aNumber h x) (aNumber i y) = rw (means-one x y)
 means-one (aNumber h x) (aWord y) = absurd (false≢true h)
-means-one (aNumber h x) (aDate y) = absurd (false≢true h)
-means-one (aNumber {t = t} h x) (aText i y) = absurd (not-both t h i)
+means-one (aNumber h x) (aDate j y) = absurd (false≢true h)
+means-one (aNumber {t = t} h x) (aText i j y) = absurd (not-both t h i)
 means-one (aWord x) (aNumber i y) = absurd (false≢true i)
 means-one (aWord x) (aWord y) = rw (means-one x y)
-means-one (aWord x) (aText i y) = absurd (false≢true i)
-means-one (aDate x) (aNumber i y) = absurd (false≢true i)
-means-one (aDate x) (aDate y) = rw (means-one x y)
-means-one (aDate x) (aText i y) = absurd (false≢true i)
-means-one (aText {t = t} h x) (aNumber i y) = absurd (not-both t i h)
-means-one (aText h x) (aWord y) = absurd (false≢true h)
-means-one (aText h x) (aDate y) = absurd (false≢true h)
-means-one (aText h x) (aText i y) = rw (means-one x y)
+means-one (aWord x) (aText i j y) = absurd (false≢true i)
+means-one (aDate g x) (aNumber i y) = absurd (false≢true i)
+means-one (aDate g x) (aDate j y) = rw (means-one x y)
+means-one (aDate g x) (aText i j y) = absurd (false≢true i)
+means-one (aText {t = t} h g x) (aNumber i y) = absurd (not-both t i h)
+means-one (aText h g x) (aWord y) = absurd (false≢true h)
+means-one (aText h g x) (aDate j y) = absurd (false≢true h)
+means-one (aText h g x) (aText i j y) = rw (means-one x y)
 
 number-wide : (t : FieldType) → isNumber t ≡ true → widthOf t ≡ 1
 number-wide T h = absurd (false≢true h)
@@ -61,8 +61,8 @@ unfolding widths
 means-wide none = refl
 means-wide (aNumber {t = t} h x) = omega (arith, number-wide t h, means-wide x)
 means-wide (aWord x) = omega (arith, means-wide x)
-means-wide (aDate x) = omega (arith, means-wide x)
-means-wide (aText {t = t} h x) = omega (arith, text-wide t h, means-wide x)
+means-wide (aDate g x) = omega (arith, means-wide x)
+means-wide (aText {t = t} h g x) = omega (arith, text-wide t h, means-wide x)
 
 -- Parts of a file
 
@@ -80,3 +80,9 @@ pub part-bytes : {file : List ℕ} {k : ℕ} {s : List ℕ} → Part file k s �
 part-bytes {file} {k} {s} p a l h =
     let d : drop (k + a) file ≡ drop a s ++ p .rest = rw (p .is, ← p .at) (drop-append-add (p .front) (s ++ p .rest) a ∙ drop-append-le a s (p .rest) (omega arith)) in
     rw d (take-append-le l (drop a s) (p .rest) (omega (arith, length-drop a s)))
+
+-- which ends no later than the file does
+pub part-within : {file : List ℕ} {k : ℕ} {s : List ℕ} → Part file k s → (a l : ℕ) → a + l ≤ length s → k + a + l ≤ length file
+part-within {file} {k} {s} p a l h =
+    let e : length file ≡ length (p .front) + (length s + length (p .rest)) = rw (p .is) (omega (arith, length-append (p .front) (s ++ p .rest), length-append s (p .rest))) in
+    omega (arith, e, p .at)

@@ -41,7 +41,7 @@ use Rattle.lines.specs.Rows.{entryOf, entryBy, entryAt, putOne, putEntry
 use Rattle.lines.specs.Meaning.{Means, none as noColumns, aNumber, aWord, aDate, aText, Refuses, Agrees, Part}
 use Rattle.lines.specs.declared.Filling.{Filling}
 use Rattle.lines.proofs.LookLaws.{got-lies, none-some, some-before}
-use Rattle.lines.proofs.MeaningLaws.{part-bytes}
+use Rattle.lines.proofs.MeaningLaws.{part-bytes, part-within}
 
 -- One field
 
@@ -69,7 +69,7 @@ abbrev Fores : List ℕ → FieldType → ℕ → ℕ → Reply Value → Type 0
 Fores file t a l (good v) = Fore file t a l v
 Fores file t a l (refused n) = n ≡ 0 → ⊥
 
-module _ (file : List ℕ) (a l : ℕ) where
+module _ (file : List ℕ) (a l : ℕ) (inside : a + l ≤ length file) where
   fores-by : (t : FieldType) (b : Bool) (v : Value) (n : ℕ) → (n ≡ 0 → ⊥) → Fore file t a l v → Fores file t a l (cond b (good v) (refused n))
   fores-by t true v n h x = x
   fores-by t false v n h x = h
@@ -94,10 +94,10 @@ module _ (file : List ℕ) (a l : ℕ) where
   -- what a field reads as, where its bytes stand in the file
   fores : (c : Context) (t : FieldType) (q : Bool) → Fores file t a l (readField c t (field q (take l (drop a file))))
   unfolding readField
-  fores c T q = record { wide = refl; means = λ r. aText refl r }
-  fores c Ref q = fores-unless Ref (barred c (meaning Ref (take l (drop a file)))) (text (meaning Ref (take l (drop a file)))) 9 (λ h. omega arith) (record { wide = refl; means = λ r. aText refl r })
+  fores c T q = record { wide = refl; means = λ r. aText refl inside r }
+  fores c Ref q = fores-unless Ref (barred c (meaning Ref (take l (drop a file)))) (text (meaning Ref (take l (drop a file)))) 9 (λ h. omega arith) (record { wide = refl; means = λ r. aText refl inside r })
   fores c D true = λ h. omega arith
-  fores c D false = fores-by D (isDate (take l (drop a file))) (text (take l (drop a file))) 9 (λ h. omega arith) (record { wide = refl; means = λ r. aDate r })
+  fores c D false = fores-by D (isDate (take l (drop a file))) (text (take l (drop a file))) 9 (λ h. omega arith) (record { wide = refl; means = λ r. aDate inside r })
   fores c I true = λ h. omega arith
   fores c I false = fores-integer (readInteger (take l (drop a file)))
   fores c (N m) true = λ h. omega arith
@@ -194,8 +194,9 @@ module _ (c : Context) (file : List ℕ) (b : ℕ) (s : List ℕ) (p : Part file
           let r = got-lies (drop m s) a l q j y in
           let g = some-before (field q (take l (drop a (drop m s)))) (fieldsIn fuel (drop j (drop m s))) fs e in
           let u : length (g .0) ≡ length ts = omega (arith, i, ap length (g .2)) in
-          let o : take l (drop (b + (m + a)) file) ≡ take l (drop a (drop m s)) = rw (drop-drop a m s) (part-bytes p (m + a) l (omega (arith, r .within, r .inside))) in
-          let x : Fores file t (b + (m + a)) l (readField c t (field q (take l (drop a (drop m s))))) = rw (sym o) (fores file (b + (m + a)) l c t q) in
+          let lies : m + a + l ≤ length s = omega (arith, r .within, r .inside) in
+          let o : take l (drop (b + (m + a)) file) ≡ take l (drop a (drop m s)) = rw (drop-drop a m s) (part-bytes p (m + a) l lies) in
+          let x : Fores file t (b + (m + a)) l (readField c t (field q (take l (drop a (drop m s))))) = rw (sym o) (fores file (b + (m + a)) l (part-within p (m + a) l lies) c t q) in
           let v : fieldsIn fuel (drop (m + j) s) ≡ some (g .0) = rw (sym (drop-drop j m s)) (g .1) in
           rw (g .2) (one-more t ts cs n m f (m + a) l (m + j) (readField c t (field q (take l (drop a (drop m s))))) (readEach c ts (g .0)) st w x (λ ds k h z w. ih ds k (m + j) h (g .0) z (omega (arith, r .within)) w v u))
       go Broken y e ih = absurd (none-some e)

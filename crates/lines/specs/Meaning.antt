@@ -1,5 +1,5 @@
 -- What a row means: its columns in their order, each field by its type; a text or a date stands in the file.
-use Prim.Native.Nat.{ℕ, suc, _+_}
+use Prim.Native.Nat.{ℕ, suc, _+_, _≤_}
 use mathlib.Core.Path.{_≡_}
 use mathlib.Core.List.{List, [], _∷_, _++_}
 use mathlib.Core.Bool.{Bool, true, false}
@@ -29,13 +29,13 @@ isNumber I = true
 isNumber (N l) = true
 isNumber (W l) = false
 
--- what columns mean in a file: a number itself, a word its place, a text or a date the bytes from a start on
+-- what columns mean in a file: a number itself, a word its place, a text or a date the bytes from a start on, all of them in the file
 pub data Means (file : List ℕ) : List FieldType → List ℤ → List Value → Type 0 where
   none : Means file [] [] []
   aNumber : {t : FieldType} {z : ℤ} {ts : List FieldType} {cs : List ℤ} {vs : List Value} → isNumber t ≡ true → Means file ts cs vs → Means file (t ∷ ts) (z ∷ cs) (number z ∷ vs)
   aWord : {l : Words} {n : ℕ} {ts : List FieldType} {cs : List ℤ} {vs : List Value} → Means file ts cs vs → Means file (W l ∷ ts) (pos n ∷ cs) (word n ∷ vs)
-  aDate : {a l : ℕ} {ts : List FieldType} {cs : List ℤ} {vs : List Value} → Means file ts cs vs → Means file (D ∷ ts) (pos a ∷ pos l ∷ cs) (text (take l (drop a file)) ∷ vs)
-  aText : {t : FieldType} {a l : ℕ} {ts : List FieldType} {cs : List ℤ} {vs : List Value} → isText t ≡ true → Means file ts cs vs → Means file (t ∷ ts) (pos a ∷ pos l ∷ cs) (text (meaning t (take l (drop a file))) ∷ vs)
+  aDate : {a l : ℕ} {ts : List FieldType} {cs : List ℤ} {vs : List Value} → a + l ≤ length file → Means file ts cs vs → Means file (D ∷ ts) (pos a ∷ pos l ∷ cs) (text (take l (drop a file)) ∷ vs)
+  aText : {t : FieldType} {a l : ℕ} {ts : List FieldType} {cs : List ℤ} {vs : List Value} → isText t ≡ true → a + l ≤ length file → Means file ts cs vs → Means file (t ∷ ts) (pos a ∷ pos l ∷ cs) (text (meaning t (take l (drop a file))) ∷ vs)
 
 -- a row of kind k holds values: the kind, columns that mean the values, and 0 in what is left of its columns
 pub record Holds (file : List ℕ) (k : ℕ) (ts : List FieldType) (row : List ℤ) (vs : List Value) : Type 0 where

@@ -37,7 +37,7 @@ fn same_text(file: &[u8], start: i64, len: i64, other: i64, size: i64) -> bool
 }
 
 // Whether two rows have the same geometry and part, their first two texts.
-fn same_names(file: &[u8], x: [i64; WIDTH], y: [i64; WIDTH]) -> bool
+pub fn same_names(file: &[u8], x: [i64; WIDTH], y: [i64; WIDTH]) -> bool
     ensures { λ r. ⌜ r ≡ sameNames (now (file .entry)) x y ⌝ }
 {
     if same_text(file, x[1], x[2], y[1], y[2]) {
@@ -47,7 +47,7 @@ fn same_names(file: &[u8], x: [i64; WIDTH], y: [i64; WIDTH]) -> bool
 }
 
 // Whether a row leads ELECTRICAL or MECHANICAL.
-fn leads_component(x: [i64; WIDTH]) -> bool
+pub fn leads_component(x: [i64; WIDTH]) -> bool
     ensures { λ r. ⌜ r ≡ leadsComponent x ⌝ }
 {
     same(x[0], 141) | same(x[0], 151)

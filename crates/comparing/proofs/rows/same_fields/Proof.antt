@@ -28,8 +28,8 @@ agrees-at-requires c κs = search laws
 returns : tie.Need-returns Inv-loop μ-loop
 returns c = search laws
 
-column-len-requires : tie.Need-column-len-requires Inv-loop μ-loop
-column-len-requires c κs = search laws
+width-of-requires : tie.Need-width-of-requires Inv-loop μ-loop
+width-of-requires c κs = search laws
 
 add-at : tie.Need-add-at Inv-loop μ-loop
 add-at c = search laws
@@ -49,4 +49,4 @@ returns-2 c = search laws
 pub same-fields-spec : {M : Type 1} → statement M
 same-fields-spec =
     tie.close
-    (tie.spec Inv-loop μ-loop field-count-requires loop-holds field-type-requires agrees-at-requires returns column-len-requires add-at add-i loop-less loop-again returns-2)
+    (tie.spec Inv-loop μ-loop field-count-requires loop-holds field-type-requires agrees-at-requires returns width-of-requires add-at add-i loop-less loop-again returns-2)

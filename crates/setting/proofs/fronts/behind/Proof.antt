@@ -1,0 +1,18 @@
+-- `setting::fronts::behind` meets its contract. Assumes nothing.
+use borrow.Author.Needs.{needs}
+use Rattle.setting.proofs.PieceLaws.{behind-last, behind-more}
+use Rattle.setting.proofs.fronts.behind.Statement.{statement}
+use Rattle.setting.proofs.fronts.behind.Tie as tie
+
+ruleset laws = (behind-last, behind-more, needs)
+
+returns : tie.Need-returns
+returns c = search laws
+
+returns-2 : tie.Need-returns-2
+returns-2 c = search laws
+
+pub behind-spec : {M : Type 1} → statement M
+behind-spec =
+    tie.close
+    (tie.spec returns returns-2)

@@ -1,0 +1,59 @@
+-- `setting::put_fields` meets its contract. Assumes nothing.
+use Prim.Native.Nat.{_-_}
+use Rattle.setting.proofs.WholeLaws.{Putting}
+use borrow.Author.Needs.{needs}
+use Rattle.setting.proofs.WholeLaws.{put-start, put-over, put-same, put-few, put-type, put-fits, put-add, put-room, put-more}
+use Rattle.setting.proofs.put_fields.Statement.{statement}
+use Rattle.setting.proofs.put_fields.Tie as tie
+
+abbrev Inv-loop : tie.InvT-loop
+Inv-loop out₀ at v kind bytes row n e₀ i₀ k₀ out e i k = Putting v bytes row out₀ out at kind n e i k
+
+abbrev μ-loop : tie.MeasureT-loop
+μ-loop out₀ at v kind bytes row n e₀ i₀ k₀ out e i k = n - i
+
+ruleset laws = (put-start, put-over, put-same, put-few, put-type, put-fits, put-add, put-room, put-more, needs)
+
+field-count-requires : tie.Need-field-count-requires Inv-loop μ-loop
+field-count-requires c κs = search laws
+
+loop-holds : tie.Need-loop-holds Inv-loop μ-loop
+loop-holds c = search laws
+
+field-type-requires : tie.Need-field-type-requires Inv-loop μ-loop
+field-type-requires c κs = search laws
+
+sub-put-column : tie.Need-sub-put-column Inv-loop μ-loop
+sub-put-column c = search laws
+
+sub-put-column-2 : tie.Need-sub-put-column-2 Inv-loop μ-loop
+sub-put-column-2 c = search laws
+
+put-column-requires : tie.Need-put-column-requires Inv-loop μ-loop
+put-column-requires c κs = search laws
+
+width-of-requires : tie.Need-width-of-requires Inv-loop μ-loop
+width-of-requires c κs = search laws
+
+add-k : tie.Need-add-k Inv-loop μ-loop
+add-k c = search laws
+
+add-i : tie.Need-add-i Inv-loop μ-loop
+add-i c = search laws
+
+loop-less : tie.Need-loop-less Inv-loop μ-loop
+loop-less c = search laws
+
+loop-again : tie.Need-loop-again Inv-loop μ-loop
+loop-again c = search (put-more, c .before .before .before .before .before .before .before .loop .inv, c .before .before .before .before .before .before .loop-test .taken, c .before .before .before .before .before .field-type .ensures, c .before .before .before .put-column .ensures, c .width-of .ensures)
+
+same-length : tie.Need-same-length Inv-loop μ-loop
+same-length c = search laws
+
+returns : tie.Need-returns Inv-loop μ-loop
+returns c = search laws
+
+pub put-fields-spec : {M : Type 1} → statement M
+put-fields-spec =
+    tie.close
+    (tie.spec Inv-loop μ-loop field-count-requires loop-holds field-type-requires sub-put-column sub-put-column-2 put-column-requires width-of-requires add-k add-i loop-less loop-again same-length returns)

@@ -1,0 +1,50 @@
+-- `setting::with_fields` meets its contract. Assumes nothing.
+use Prim.Native.Nat.{_-_}
+use Rattle.setting.proofs.WholeLaws.{Summing}
+use borrow.Author.Needs.{needs}
+use Rattle.setting.proofs.WholeLaws.{sum-start, sum-over, sum-few, sum-small, sum-type, sum-fits, sum-add, sum-more}
+use Rattle.setting.proofs.with_fields.Statement.{statement}
+use Rattle.setting.proofs.with_fields.Tie as tie
+
+abbrev Inv-loop : tie.InvT-loop
+Inv-loop sum v kind bytes row n len₀ i₀ k₀ len i k = Summing v bytes row sum kind n len i k
+
+abbrev μ-loop : tie.MeasureT-loop
+μ-loop sum v kind bytes row n len₀ i₀ k₀ len i k = n - i
+
+ruleset laws = (sum-start, sum-over, sum-few, sum-small, sum-type, sum-fits, sum-add, sum-more, needs)
+
+field-count-requires : tie.Need-field-count-requires Inv-loop μ-loop
+field-count-requires c κs = search laws
+
+loop-holds : tie.Need-loop-holds Inv-loop μ-loop
+loop-holds c = search laws
+
+field-type-requires : tie.Need-field-type-requires Inv-loop μ-loop
+field-type-requires c κs = search laws
+
+with-column-requires : tie.Need-with-column-requires Inv-loop μ-loop
+with-column-requires c κs = search laws
+
+width-of-requires : tie.Need-width-of-requires Inv-loop μ-loop
+width-of-requires c κs = search laws
+
+add-k : tie.Need-add-k Inv-loop μ-loop
+add-k c = search laws
+
+add-i : tie.Need-add-i Inv-loop μ-loop
+add-i c = search laws
+
+loop-less : tie.Need-loop-less Inv-loop μ-loop
+loop-less c = search laws
+
+loop-again : tie.Need-loop-again Inv-loop μ-loop
+loop-again c = search laws
+
+returns : tie.Need-returns Inv-loop μ-loop
+returns c = search laws
+
+pub with-fields-spec : {M : Type 1} → statement M
+with-fields-spec =
+    tie.close
+    (tie.spec Inv-loop μ-loop field-count-requires loop-holds field-type-requires with-column-requires width-of-requires add-k add-i loop-less loop-again returns)

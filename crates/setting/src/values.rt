@@ -1,0 +1,157 @@
+// One field's value as bytes: a text with its quotes where it needs them, a date, an integer, a number, a word.
+use crate::fronts;
+use form::FieldType;
+use form::Limit;
+use form::Rules;
+ghost use mathlib.Core.Path.{_≡_};
+ghost use mathlib.Core.Bool.{true};
+ghost use Prim.Native.Nat.{_+_, _≤_};
+ghost use lib.IntN.{natAbs};
+ghost use lib.ListN.{length};
+ghost use Rattle.text.specs.Bytes.{field};
+ghost use Rattle.measure.specs.Limits.{largestLength};
+ghost use Rattle.printing.specs.Printing.{Wrote};
+ghost use Rattle.form.specs.declared.FieldType.the-variants.{Text, Date, Number};
+ghost use Rattle.spelling.specs.Canonical.{needsQuotes, versionText, printedNumber, written};
+ghost use Rattle.reading.specs.Names.{textAt};
+ghost use Rattle.columns.specs.Columns.{liesIn, fieldFits};
+ghost use Rattle.setting.specs.LineText.{anywhere, valueText, endedText};
+
+// How many bytes a text takes, with its quotes.
+fn part_len(bytes: &[u8], start: i64, len: i64) -> usize
+    requires { ⌜ liesIn (length (now bytes)) start len ≡ true ⌝ }
+    ensures { λ r. ⌜ r ≡ length (written (field (needsQuotes (textAt (now (bytes .entry)) start len)) (textAt (now (bytes .entry)) start len))) ⌝ }
+{
+    let a = measure::magnitude(start) as usize;
+    let n = measure::magnitude(len) as usize;
+    wording::text_len(&bytes[a..a + n])
+}
+
+// A text, with its quotes.
+fn put_part(out: &mut [u8], at: usize, bytes: &[u8], start: i64, len: i64) -> usize
+    requires { ⌜ (liesIn (length (now bytes)) start len ≡ true) × (at + length (written (field (needsQuotes (textAt (now bytes) start len)) (textAt (now bytes) start len))) ≤ length (now out)) ⌝ }
+    ensures { λ r. ⌜ Wrote (now (out .entry)) (now (out .exit)) at r (written (field (needsQuotes (textAt (now (bytes .entry)) start len)) (textAt (now (bytes .entry)) start len))) ⌝ }
+{
+    let a = measure::magnitude(start) as usize;
+    let n = measure::magnitude(len) as usize;
+    wording::put_text(out, at, &bytes[a..a + n])
+}
+
+// A date.
+fn put_date(out: &mut [u8], at: usize, bytes: &[u8], start: i64, len: i64) -> usize
+    requires { ⌜ (liesIn (length (now bytes)) start len ≡ true) × (at + length (textAt (now bytes) start len) ≤ length (now out)) ⌝ }
+    ensures { λ r. ⌜ Wrote (now (out .entry)) (now (out .exit)) at r (textAt (now (bytes .entry)) start len) ⌝ }
+{
+    let a = measure::magnitude(start) as usize;
+    let n = measure::magnitude(len) as usize;
+    wording::put_bytes(out, at, &bytes[a..a + n])
+}
+
+// The version.
+fn put_version(out: &mut [u8], at: usize, v: Rules) -> usize
+    requires { ⌜ at + length (versionText v) ≤ length (now out) ⌝ }
+    ensures { λ r. ⌜ Wrote (now (out .entry)) (now (out .exit)) at r (versionText v) ⌝ }
+{
+    match v {
+        Rules::Idf3 => wording::put_bytes(out, at, b"3.0"),
+    }
+}
+
+// How many bytes the version takes.
+fn version_len(v: Rules) -> usize
+    ensures { λ r. ⌜ r ≡ length (versionText v) ⌝ }
+{
+    match v {
+        Rules::Idf3 => 3,
+    }
+}
+
+// How many bytes a number takes.
+fn number_len(v: Rules, l: Limit, z: i64) -> usize
+    requires { ⌜ natAbs z ≤ largestLength ⌝ }
+    ensures { λ r. ⌜ r ≡ length (printedNumber v l z) ⌝ }
+{
+    match l {
+        Limit::Version => version_len(v),
+        Limit::Length => printing::count_len(z),
+        Limit::NotBelow => printing::count_len(z),
+        Limit::Above => printing::count_len(z),
+        Limit::Included => printing::count_len(z),
+        Limit::Rotation => printing::count_len(z),
+    }
+}
+
+// A number: the version as such, any other with five decimals.
+fn put_number(out: &mut [u8], at: usize, v: Rules, l: Limit, z: i64) -> usize
+    requires { ⌜ (natAbs z ≤ largestLength) × (at + length (printedNumber v l z) ≤ length (now out)) ⌝ }
+    ensures { λ r. ⌜ Wrote (now (out .entry)) (now (out .exit)) at r (printedNumber v l z) ⌝ }
+{
+    match l {
+        Limit::Version => put_version(out, at, v),
+        Limit::Length => printing::put_count(out, at, z),
+        Limit::NotBelow => printing::put_count(out, at, z),
+        Limit::Above => printing::put_count(out, at, z),
+        Limit::Included => printing::put_count(out, at, z),
+        Limit::Rotation => printing::put_count(out, at, z),
+    }
+}
+
+// How many bytes the field of columns a and b takes.
+pub(crate) fn value_len(v: Rules, t: FieldType, bytes: &[u8], a: i64, b: i64) -> usize
+    requires { ⌜ fieldFits (anywhere v) t (now bytes) a b ≡ true ⌝ }
+    ensures { λ r. ⌜ r ≡ length (valueText v t (now (bytes .entry)) a b) ⌝ }
+{
+    match t {
+        FieldType::Text => part_len(bytes, a, b),
+        FieldType::Reference => part_len(bytes, a, b),
+        FieldType::Date => measure::magnitude(b) as usize,
+        FieldType::Integer => printing::integer_len(a),
+        FieldType::Number(l) => number_len(v, l, a),
+        FieldType::Word(l) => {
+            wording::padded_len(form::names::word_row(v, l, measure::magnitude(a)))
+        }
+    }
+}
+
+// The field of columns a and b.
+fn put_value(
+    out: &mut [u8],
+    at: usize,
+    v: Rules,
+    t: FieldType,
+    bytes: &[u8],
+    a: i64,
+    b: i64,
+) -> usize
+    requires { ⌜ (fieldFits (anywhere v) t (now bytes) a b ≡ true) × (at + length (valueText v t (now bytes) a b) ≤ length (now out)) ⌝ }
+    ensures { λ r. ⌜ Wrote (now (out .entry)) (now (out .exit)) at r (valueText v t (now (bytes .entry)) a b) ⌝ }
+{
+    match t {
+        FieldType::Text => put_part(out, at, bytes, a, b),
+        FieldType::Reference => put_part(out, at, bytes, a, b),
+        FieldType::Date => put_date(out, at, bytes, a, b),
+        FieldType::Integer => printing::put_integer(out, at, a),
+        FieldType::Number(l) => put_number(out, at, v, l, a),
+        FieldType::Word(l) => {
+            wording::put_padded(out, at, form::names::word_row(v, l, measure::magnitude(a)))
+        }
+    }
+}
+
+// The field of columns a and b and the byte behind it, before n more fields.
+pub(crate) fn put_ended(
+    out: &mut [u8],
+    at: usize,
+    v: Rules,
+    t: FieldType,
+    bytes: &[u8],
+    a: i64,
+    b: i64,
+    n: usize,
+) -> usize
+    requires { ⌜ (fieldFits (anywhere v) t (now bytes) a b ≡ true) × (at + length (endedText v t (now bytes) a b n) ≤ length (now out)) ⌝ }
+    ensures { λ r. ⌜ Wrote (now (out .entry)) (now (out .exit)) at r (endedText v t (now (bytes .entry)) a b n) ⌝ }
+{
+    let e = put_value(out, at, v, t, bytes, a, b);
+    printing::put_byte(out, e, fronts::behind(n))
+}

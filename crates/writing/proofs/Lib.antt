@@ -1,0 +1,5 @@
+pub mod RowLaws
+pub mod NameLaws
+pub mod Anywhere
+pub mod TextLaws
+pub mod WholeLaws

@@ -1,0 +1,3 @@
+pub mod WholeRows
+pub mod Writable
+pub mod Outcomes
