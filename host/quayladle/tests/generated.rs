@@ -1,0 +1,97 @@
+//! The proved library against the second reader on generated files, whole and damaged.
+
+mod common;
+
+use common::{agreed, agreed_on_both, agreed_on_rows};
+use generate::{board, damaged, library, matched, panel, Random};
+
+const FILES: u64 = 20_000;
+const PAIRS: u64 = 4_000;
+
+/// A file by its number: half of them whole, half damaged.
+fn file(seed: u64) -> Vec<u8> {
+    let mut random = Random::new(seed);
+    let size = random.below(900);
+    let whole = match random.below(3) {
+        0 => board(&mut random, size),
+        1 => panel(&mut random, size),
+        _ => library(&mut random, size),
+    };
+    if seed % 2 == 0 {
+        whole
+    } else {
+        damaged(&mut random, &whole)
+    }
+}
+
+#[test]
+fn one_file() {
+    let mut seen = [0; 14];
+    for seed in 0..FILES {
+        let reply = agreed(seed, &file(seed));
+        seen[reply.number as usize] += 1;
+    }
+    println!("{FILES} files, replies by number: {seen:?}");
+    assert!(seen[0] > 0 && seen[3..].iter().all(|&count| count > 0), "{seen:?}");
+}
+
+#[test]
+fn two_files() {
+    let (mut same, mut judged) = ([0; 2], [0; 18]);
+    for seed in 0..PAIRS {
+        let (first, second) = pair(seed);
+        let verdicts = agreed_on_both(seed, &first, &second);
+        if verdicts[0].reply.number == 0 {
+            same[verdicts[0].reply.count as usize] += 1;
+        }
+        judged[verdicts[1].reply.number as usize] += 1;
+    }
+    println!("{PAIRS} pairs, different and same: {same:?}, judged by number: {judged:?}");
+    assert!(same.iter().all(|&count| count > 0), "{same:?}");
+    assert!([0, 16, 17].iter().all(|&number| judged[number] > 0), "{judged:?}");
+}
+
+#[test]
+fn changed_rows() {
+    let mut seen = [0; 16];
+    for seed in (0..FILES).step_by(2) {
+        let mut random = Random::new(seed);
+        let file = file(seed);
+        let mut rows = quayladle::rows(&file).expect("a whole file").concat();
+        let place = random.below(rows.len());
+        rows[place] = changed(&mut random, rows[place]);
+        let reply = agreed_on_rows(seed, &rows, &file);
+        seen[reply.number as usize] += 1;
+    }
+    println!("{} lists of rows, replies by number: {seen:?}", FILES / 2);
+    assert!(seen[0] > 0 && seen[15] > 0, "{seen:?}");
+}
+
+/// A number near another one, or one at a limit.
+fn changed(random: &mut Random, number: i64) -> i64 {
+    match random.below(4) {
+        0 => number + 1,
+        1 => number - 1,
+        2 => random.pick(&[0, 1, 10, 36_000_000, 99_999_999_999, 100_000_000_000, -1_000_000_000]),
+        _ => random.pick(&[i64::MIN, i64::MAX, -1, 3, 300_000, 999_999_999]),
+    }
+}
+
+/// Two files by their number: a board and its library, or a file and its canonical text; in half of
+/// the cases one of them is damaged.
+fn pair(seed: u64) -> (Vec<u8>, Vec<u8>) {
+    let mut random = Random::new(seed);
+    let (first, second) = match seed % 3 {
+        0 => matched(&mut random, 900),
+        _ => {
+            let whole = file(2 * seed);
+            let text = second::canon(&whole).expect("a whole file");
+            (whole, text)
+        }
+    };
+    match random.below(4) {
+        0 => (damaged(&mut random, &first), second),
+        1 => (first, damaged(&mut random, &second)),
+        _ => (first, second),
+    }
+}
