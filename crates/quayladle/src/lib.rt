@@ -86,7 +86,14 @@ pub extern "C" fn quayladle_judge(board: &[u8], library: &[u8], reply: &mut [u64
 // Start and length of each field of the line at a place, whose number is `line`, from the front of the slice on; the slice stays
 // as it is on every refusal. `place` gets where the next call goes on, and the number of the line there.
 #[no_mangle]
-pub extern "C" fn quayladle_fields(file: &[u8], at: usize, line: u64, out: &mut [i64], place: &mut [u64; 2], reply: &mut [u64; 4])
+pub extern "C" fn quayladle_fields(
+    file: &[u8],
+    at: usize,
+    line: u64,
+    out: &mut [i64],
+    place: &mut [u64; 2],
+    reply: &mut [u64; 4],
+)
     ensures { λ _. ⌜ now (reply .exit) ≡ ofOne (stepOf (now (file .entry)) at line (length (now (out .entry))) .reply) ⌝ }
     ensures { λ _. ⌜ now (place .exit) ≡ ofPlace (stepOf (now (file .entry)) at line (length (now (out .entry)))) ⌝ }
     ensures { λ _. ⌜ now (out .exit) ≡ placesAfter (now (file .entry)) at line (now (out .entry)) ⌝ }

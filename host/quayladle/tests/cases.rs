@@ -27,7 +27,9 @@ fn difference(case: &str) -> Option<String> {
         [name, "canon", file, text] => (name, column(&canon(&bytes(file)).unwrap()), text),
         [name, "same", a, b, reply] => (name, with_which(same(&bytes(a), &bytes(b))), reply),
         [name, "judge", a, b, reply] => (name, with_which(judge(&bytes(a), &bytes(b))), reply),
-        [name, "reader", room, file, replies] => (name, calls(&bytes(file), room, replies), replies),
+        [name, "reader", room, file, replies] => {
+            (name, calls(&bytes(file), room, replies), replies)
+        }
         _ => panic!("not a case: {case}"),
     };
     (came != expected).then(|| format!("{name}: came {came}, expected {expected}"))
