@@ -1,0 +1,210 @@
+-- The three demands, sentence by sentence, and judging: what each outcome that a contract allows says of the files, by the rules for producing them.
+use Prim.Native.Nat.{ℕ, _+_, _*_, _/_, _≤_, _<_}
+use mathlib.Core.Path.{_≡_, refl, sym, ap, _∙_, subst}
+use mathlib.Core.Logic.{_↔_}
+use mathlib.Core.List.{List, _++_}
+use mathlib.Core.Bool.{Bool, true, false}
+use native.Mathlib.Omega.{arith}
+use lib.IntN.{ℤ}
+use lib.ListN.{length, take, drop}
+use Rattle.text.specs.LineRules.{File}
+use Rattle.text.proofs.LineSpelling.{lines-complete}
+use Rattle.form.specs.Values.{Rec}
+use Rattle.form.specs.declared.Rules.the-variants.{Idf3}
+use Rattle.lines.specs.Rows.{width}
+use Rattle.permitted.specs.ListRules.{Permitted, Distinct}
+use Rattle.reading.specs.Walks.{limit}
+use Rattle.reading.specs.Replies.{reply, checkReply, rowsOf}
+use Rattle.reading.specs.declared.Reply.{Reply}
+use Rattle.reading.proofs.RowLaws as reads
+use Rattle.writing.specs.Outcomes.{writeReply, writeText}
+use Rattle.comparing.specs.declared.Verdict as compared
+use Rattle.comparing.specs.Ignoring.{nothing}
+use Rattle.comparing.specs.SameLists.{sameFiles}
+use Rattle.comparing.specs.Verdicts.{foundSame, sameReply, verdict}
+use Rattle.comparing.proofs.VerdictLaws.{first-refused, second-refused}
+use Rattle.judging.specs.declared.Verdict as judging
+use Rattle.judging.specs.Verdicts as says
+use Rattle.files.specs.WholeRules.{FileSays}
+use Rattle.files.specs.Outcomes.{RowsMean}
+use Rattle.files.proofs.WholeFiles as files
+use Rattle.files.proofs.Checked.{check-large, check-accepts, check-count, check-first, check-early}
+use Rattle.files.proofs.RowsTold as told
+use Rattle.files.proofs.ReadSays as reading
+use Rattle.written.specs.Texts.{canonicalText, RowsSay}
+use Rattle.written.proofs.RowsWritten as rows
+use Rattle.written.proofs.RoundTrip as texts
+use Rattle.alike.proofs.Sameness as alike
+use Rattle.entries.specs.JudgeRules.{Judged}
+use Rattle.entries.proofs.JudgedFiles as entries
+use Rattle.demands.specs.Outcomes.{Checks, Reads, Writes, Compares, Judges}
+use Rattle.demands.specs.Answers.{Fails, Short, Answered, Written}
+use Rattle.demands.proofs.WriteAnswers.{write-answers, written-one, written-zero}
+use Rattle.demands.proofs.Answers.{check-answers, answered-one, answered-line, answered-early, read-list, front-means, behind-kept}
+
+-- the parts of an answer
+abbrev numbered : Reply → ℕ
+numbered r = r .number
+
+counted : {v w : compared.Verdict} → v ≡ w → v .count ≡ w .count
+counted e = ap (λ (u : compared.Verdict). u .count) e
+
+two : {n : ℕ} → n ≡ 0 → n ≡ 1 → ⊥
+two a b = omega arith
+
+-- Demand 1
+
+-- "Every file, however broken, gets a result or a refusal with a number and a line"
+pub every-file : {file : List ℕ} {r : Reply} → Checks file r → Answered file r
+every-file {file} c = subst (Answered file) (sym (c .answer)) (check-answers file)
+
+-- "A refusal writes nothing into what was lent": reading, writing
+pub untouched :
+    ((file : List ℕ) (old new : List ℤ) (r : Reply) → Reads file old r new → (r .number ≡ 0 → ⊥) → new ≡ old)
+    × ((rows : List ℤ) (bytes old new : List ℕ) (r : Reply) → Writes rows bytes old r new → (r .number ≡ 0 → ⊥) → new ≡ old)
+untouched = (
+  λ file old new r o h. o .left ∙ reading.untouched file old (λ z. h (ap numbered (o .answer) ∙ z)),
+  λ cs bytes old new r o h. o .left ∙ rows.untouched cs bytes old (λ z. h (ap numbered (o .answer) ∙ z)),
+)
+
+-- Demand 2
+
+-- "An accepted file gives exactly the records that IDF 3.0 gives its lines": what `read` leaves means the list that the file says, and the rest is as it was
+pub records : {file : List ℕ} {old new : List ℤ} {r : Reply} → Reads file old r new → r .number ≡ 0
+    → (rs : List Rec)
+    × FileSays Idf3 rs file
+    × (r ≡ reply 0 0 (length rs))
+    × RowsMean file rs (take (width * length rs) new)
+    × (drop (width * length rs) new ≡ drop (width * length rs) old)
+records {file} {old} o z =
+    let w = read-list file (length old) (sym (ap numbered (o .answer)) ∙ z) in
+    let h = w .0 in
+    let s = w .1 .1 in
+    let i = w .1 .2 in
+    (w .1 .0, s, o .answer ∙ reading.read-says file h s old i, rw (o .left) (front-means file h s old i), rw (o .left) (behind-kept file h s old i))
+
+-- rows mean one list at most
+pub rows-one : {file : List ℕ} {rs qs : List Rec} {xs : List ℤ} → RowsMean file rs xs → RowsMean file qs xs → rs ≡ qs
+rows-one a b = told.rows-one a b
+
+-- all its records or none: too few rows lent is 2, with the number of rows needed
+module _ {file : List ℕ} {old new : List ℤ} {r : Reply} (o : Reads file old r new) (h : length file ≤ limit) {rs : List Rec} (s : FileSays Idf3 rs file) where
+  pub read-whole : length rs ≤ length old / width → r ≡ reply 0 0 (length rs)
+  read-whole i = o .answer ∙ reading.read-says file h s old i
+
+  pub read-short : length old / width < length rs → r ≡ reply 2 0 (length rs)
+  read-short i = o .answer ∙ reading.read-short file h s old i
+
+-- what `check` refuses, `read` refuses so
+pub read-refused : {file : List ℕ} {old new : List ℤ} {r c : Reply} → Reads file old r new → Checks file c → (c .number ≡ 0 → ⊥) → r ≡ c
+read-refused {file} {old} {c = c} o d h = o .answer ∙ sym (reads.read-refused file old c (d .answer) h)
+
+-- "The writer turns records into one canonical text", which spells them
+pub canonical-spells : {rs : List Rec} → Permitted Idf3 rs → Distinct Idf3 rs → FileSays Idf3 rs (canonicalText Idf3 rs)
+canonical-spells p d = texts.canonical-spells Idf3 p d
+
+-- no two lists have one text
+pub one-text : {rs qs : List Rec} → Permitted Idf3 rs → Distinct Idf3 rs → Permitted Idf3 qs → Distinct Idf3 qs → (canonicalText Idf3 rs ≡ canonicalText Idf3 qs) ↔ (rs ≡ qs)
+one-text p d q e = texts.one-text Idf3 p d q e
+
+-- `write` gives it, or says that there is none (15), or that it is too large (1) or the slice too short (14)
+pub written-iff : {rows : List ℤ} {bytes old new : List ℕ} {r : Reply} → Writes rows bytes old r new ↔ Written rows bytes old r new
+written-iff {rows} {bytes} {old} = (λ o. rw (o .answer, o .left) (write-answers rows bytes old), λ w. let e = written-one rows bytes old w in record { answer = e .0; left = e .1 })
+
+-- "Within the size limit, reading that text gives the same records back"
+pub round-trip : {rs : List Rec} {old new : List ℤ} {r : Reply} → Permitted Idf3 rs → Distinct Idf3 rs → length (canonicalText Idf3 rs) ≤ limit
+    → Reads (canonicalText Idf3 rs) old r new → length rs ≤ length old / width
+    → (r ≡ reply 0 0 (length rs)) × RowsMean (canonicalText Idf3 rs) rs (take (width * length rs) new)
+round-trip {rs} {old} p d h o i =
+    let s = canonical-spells p d in
+    (read-whole o h s i, rw (o .left) (front-means (canonicalText Idf3 rs) h s old i))
+
+-- what was read from a file is written as the canonical text of the list that the file says
+pub written-read : {file : List ℕ} {rs : List Rec} {old new : List ℤ} {r q : Reply} {room out : List ℕ} → FileSays Idf3 rs file → length file ≤ limit
+    → Reads file old r new → length rs ≤ length old / width
+    → Writes (take (width * length rs) new) file room q out → length (canonicalText Idf3 rs) ≤ limit → length (canonicalText Idf3 rs) ≤ length room
+    → (q ≡ reply 0 0 (length (canonicalText Idf3 rs))) × (out ≡ canonicalText Idf3 rs ++ drop (length (canonicalText Idf3 rs)) room)
+written-read {file} {rs} {old} {new} {room = room} s h o i u l j =
+    let e : take (width * length rs) new ≡ rowsOf file = ap (take (width * length rs)) (o .left) ∙ texts.read-front file s h old i in
+    let w = texts.write-read-text file s l room j in
+    (u .answer ∙ ap (λ (xs : List ℤ). writeReply xs file (length room)) e ∙ w .0, u .left ∙ ap (λ (xs : List ℤ). writeText xs file room) e ∙ w .1)
+
+-- so a canonical text is written as itself
+pub written-again : {rs : List Rec} {old new : List ℤ} {r q : Reply} {room out : List ℕ} → Permitted Idf3 rs → Distinct Idf3 rs → length (canonicalText Idf3 rs) ≤ limit
+    → Reads (canonicalText Idf3 rs) old r new → length rs ≤ length old / width
+    → Writes (take (width * length rs) new) (canonicalText Idf3 rs) room q out → length (canonicalText Idf3 rs) ≤ length room
+    → (q ≡ reply 0 0 (length (canonicalText Idf3 rs))) × (out ≡ canonicalText Idf3 rs ++ drop (length (canonicalText Idf3 rs)) room)
+written-again p d h o i u j = written-read (canonical-spells p d) h o i u h j
+
+-- what `write` wrote, `read` reads as the list that the rows said
+pub read-written : {rows old new : List ℤ} {bytes room out : List ℕ} {q r : Reply} {rs : List Rec} → RowsSay bytes rs rows
+    → Writes rows bytes room q out → q .number ≡ 0 → Reads (take (q .count) out) old r new → length rs ≤ length old / width
+    → (r ≡ reply 0 0 (length rs)) × RowsMean (take (q .count) out) rs (take (width * length rs) new)
+read-written {rows} {bytes = bytes} {room = room} s u z o i =
+    let w = written-zero rows bytes room s (written-iff .0 u) z in
+    rw (w .1) (round-trip (s .permitted) (s .distinct) (w .0) (rw (w .1) at o) i)
+
+-- Demand 3
+
+-- "A file within the size limit is accepted exactly when it is a permitted spelling of some permitted list of records"
+pub accepted-iff : {file : List ℕ} {r : Reply} → Checks file r → length file ≤ limit → (r .number ≡ 0) ↔ ((rs : List Rec) × FileSays Idf3 rs file)
+accepted-iff {file} c h = rw (c .answer) (check-accepts file h)
+
+-- over the limit it is 1, and only there
+pub large-iff : {file : List ℕ} {r : Reply} → Checks file r → (r .number ≡ 1) ↔ (limit < length file)
+large-iff {file} c = (λ z. answered-one (every-file c) z, λ h. ap numbered (c .answer ∙ check-large file h))
+
+-- "There is only one such list"
+pub one-list : {file : List ℕ} {rs qs : List Rec} → FileSays Idf3 rs file → FileSays Idf3 qs file → rs ≡ qs
+one-list a b = files.one-list Idf3 a b
+
+-- "A refusal on content names the first line after which, size aside, no further lines would make an accepted file"
+pub first-line : {file : List ℕ} {ls : List (List ℕ)} {r : Reply} → Checks file r → length file ≤ limit → File ls file → (k : ℕ)
+    → ((3 ≤ r .number) × (r .number ≤ 12) × (r .line ≡ k + 1)) ↔ Fails ls k
+first-line {file} {ls} {r} c h m k = (λ w. answered-line m (every-file c) k (w .0) (w .1) (w .2), λ f. named (check-first file h k .1 (rw (lines-complete m) f)))
+  where
+    named : (n : ℕ) × (3 ≤ n) × (n ≤ 12) × (checkReply file ≡ reply n (k + 1) 0) → (3 ≤ r .number) × (r .number ≤ 12) × (r .line ≡ k + 1)
+    named (n, a, b, e) = rw (c .answer, e) (a, b, refl)
+
+-- "or says that the file ends too early"
+pub too-early : {file : List ℕ} {ls : List (List ℕ)} {r : Reply} → Checks file r → length file ≤ limit → File ls file
+    → ((r .number ≡ 13) ↔ Short ls file) × (r .number ≡ 13 → r ≡ reply 13 (length ls + 1) 0)
+too-early {file} {ls} {r} c h m = ((λ z. answered-early m (every-file c) z .0, ends), λ z. answered-early m (every-file c) z .1)
+  where
+    ends : Short ls file → r .number ≡ 13
+    ends s = ap numbered (c .answer ∙ check-early file h .1 (rw (lines-complete m) s))
+
+-- "Two accepted files are the same exactly when their lists are equal": 1 where they are, 0 where they are not, and neither is refused
+pub same-iff : {first second : List ℕ} {rs qs : List Rec} {v : compared.Verdict} → Compares first second v → length first ≤ limit → length second ≤ limit
+    → FileSays Idf3 rs first → FileSays Idf3 qs second
+    → ((v ≡ verdict 0 0 1 0) ↔ (rs ≡ qs)) × ((v ≡ verdict 0 0 0 0) ↔ (rs ≡ qs → ⊥))
+unfolding sameReply
+same-iff {first} {second} {rs} {qs} {v} c h i s t = go (sameFiles nothing first second) (c .answer ∙ rw (check-count first h s, check-count second i t)) (rw (c .answer) (alike.same-iff first second h i s t))
+  where
+    go : (b : Bool) → v ≡ foundSame b → (v .count ≡ 1) ↔ (rs ≡ qs) → ((v ≡ verdict 0 0 1 0) ↔ (rs ≡ qs)) × ((v ≡ verdict 0 0 0 0) ↔ (rs ≡ qs → ⊥))
+    go true e w = ((λ x. w .0 (counted x), λ x. e), (λ x y. two (counted x) (w .1 y), λ d. absurd (d (w .0 (counted e)))))
+    go false e w = ((λ x. w .0 (counted x), λ x. absurd (two (counted e) (w .1 x))), (λ x y. two (counted x) (w .1 y), λ d. e))
+
+-- a refused file is named, 1 the first and 2 the second, with its own number and line
+pub same-refused : {first second : List ℕ} {c d : Reply} {v : compared.Verdict} → Compares first second v → Checks first c → Checks second d
+    → ((c .number ≡ 0 → ⊥) → v ≡ verdict (c .number) (c .line) 0 1) × (c .number ≡ 0 → (d .number ≡ 0 → ⊥) → v ≡ verdict (d .number) (d .line) 0 2)
+same-refused {first} {second} {c} {d} o a b = (
+  λ h. o .answer ∙ sym (first-refused first second c (a .answer) (verdict (c .number) (c .line) 0 1) h refl),
+  λ h i. o .answer ∙ sym (second-refused first second c (a .answer) (verdict (d .number) (d .line) 0 2) h d (b .answer) i refl),
+)
+
+-- Judging
+
+-- the verdict on two accepted files is the one that the rules over their lists give
+pub judged : {board library : List ℕ} {rs qs : List Rec} {v : judging.Verdict} → length board ≤ limit → length library ≤ limit → FileSays Idf3 rs board → FileSays Idf3 qs library
+    → Judges board library v ↔ Judged rs qs v
+judged {board} {library} {v = v} h i s u = let w = entries.judged-exactly board library h i s u v in (λ e. w .0 (sym (e .answer)), λ j. record { answer = sym (w .1 j) })
+
+-- a refused file is named as in comparing
+pub judge-refused : {board library : List ℕ} {c d : Reply} {v : judging.Verdict} → Judges board library v → Checks board c → Checks library d
+    → ((c .number ≡ 0 → ⊥) → v ≡ says.verdict (c .number) (c .line) (c .count) 1)
+    × (c .number ≡ 0 → (d .number ≡ 0 → ⊥) → v ≡ says.verdict (d .number) (d .line) (d .count) 2)
+judge-refused {board} {library} {c} {d} o a b = (
+  λ h. rw (a .answer) (o .answer ∙ entries.judged-first board library (λ z. h (ap numbered (a .answer) ∙ z))),
+  λ h i. rw (b .answer) (o .answer ∙ entries.judged-second board library (sym (ap numbered (a .answer)) ∙ h) (λ z. i (ap numbered (b .answer) ∙ z))),
+)

@@ -1,0 +1,197 @@
+-- Small files, rows and boards that meet the premises of the demands: the answers are computed, so that no statement speaks of nothing.
+use Prim.Native.Nat.{ℕ, _≤_, _<_}
+use Prim.Native.String.{String}
+use mathlib.Core.Path.{_≡_, refl, sym, ap, subst}
+use mathlib.Core.List.{List, [], _∷_, _++_}
+use native.Mathlib.Omega.{arith}
+use lib.ListN.{length, replicate, length-replicate}
+use Rattle.text.specs.Bytes.{permitted, allOf, begins, ascii}
+use Rattle.text.specs.FirstField.{span, endsWell, bareAt, closedAt, quotedAt, fieldAt, fieldOf}
+use Rattle.text.specs.Fields.{fieldsIn, fieldsOf}
+use Rattle.text.specs.Lines.{endLen, contentLen, lineEnd, linesOf}
+use Rattle.text.proofs.LineSpelling.{lines-sound}
+use Rattle.measure.specs.Numbers.{digitHere, judge, decimals, whole, body, readNumber}
+use Rattle.measure.specs.Integers.{digits, unsigned, readInteger}
+use Rattle.measure.specs.DateRules.{datePieces}
+use Rattle.measure.specs.Dates.{isTwo, fitsIn, isDate}
+use Rattle.printing.specs.Printing.{numeralOf, decimalsOf, magnitudeOf, signOf, printed}
+use Rattle.form.specs.Values.{Rec}
+use Rattle.form.specs.Names.{wordsOf, sectionNames}
+use Rattle.form.specs.Compare.{sameBytes, folded, wordKey, sameWord, placeOf, wordAt}
+use Rattle.form.specs.Sections.{sections}
+use Rattle.form.specs.Kinds.{kindAt, sectionOf, lineOf, roleOf}
+use Rattle.form.specs.Layouts.{layoutOf, typesOf}
+use Rattle.form.specs.Letters.{isKind}
+use Rattle.form.specs.Fits.{kept, within, beyond, meaning, barred, isEmpty, goodText, fits}
+use Rattle.form.specs.Reading.{readField, lineAs, keyFrom, keywordOf}
+use Rattle.form.specs.declared.Rules.the-variants.{Idf3}
+use Rattle.spelling.specs.Canonical as canonical
+use Rattle.spelling.specs.Canonical.{needsQuotes, canonicalField, canonicalFields, joined, canonicalLine, canonicalRecord}
+use Rattle.lines.specs.LineKinds.{kindOf}
+use Rattle.lines.specs.Rows.{entryAt, fillFrom, filled}
+use Rattle.loops.specs.Loops.{eqZ, loopAfter}
+use Rattle.records.specs.Marks.{shapeOf, manyLoops}
+use Rattle.records.specs.Stages.{mayOpen, after}
+use Rattle.records.specs.Places.{dataKind, keyKind}
+use Rattle.records.specs.Automaton.{mayStand, moved, stepped}
+use Rattle.reading.specs.Judging.{filledBy, ofKind, dataBy, judged}
+use Rattle.reading.specs.Walks.{limit, lineIn, turnOf, traceIn, traceAt}
+use Rattle.reading.specs.Names.{sameText, sameNames, usedIn, repeatIn}
+use Rattle.reading.specs.Replies.{reply, endedBy, surveyed, rowsIn, rowsOf, checkReply, readReply}
+use Rattle.columns.specs.Columns.{liesIn, rangeFits, integerFits, numberFits, wordFits, allZero, fieldsFit, rowFits}
+use Rattle.columns.specs.Records.{valuesIn}
+use Rattle.setting.specs.LineText.{lineText}
+use Rattle.writing.specs.WholeRows.{chunks, wholeRows}
+use Rattle.writing.specs.Writable.{rowStep, carries, namesIt, namedIn, twice, writable}
+use Rattle.writing.specs.Outcomes.{textOf, writeReply, writeText}
+use Rattle.comparing.specs.Ignoring.{ignoredAt}
+use Rattle.comparing.specs.SameRows.{sameField, agreesAt, sameFrom, sameRow}
+use Rattle.comparing.specs.SameLists.{listIn, sameLists}
+use Rattle.comparing.specs.Verdicts as same
+use Rattle.comparing.specs.Verdicts.{sameReply}
+use Rattle.judging.specs.Entries as entries
+use Rattle.judging.specs.Verdicts as judging
+use Rattle.judging.specs.Verdicts.{judgeReply}
+use Rattle.reading.specs.declared.Reply.{Reply}
+use Rattle.files.specs.WholeRules.{FileSays}
+use Rattle.files.proofs.Checked.{check-large}
+use Rattle.written.specs.Texts.{canonicalText, RowsSay}
+use Rattle.written.proofs.RowsWritten.{unwritable-iff}
+use Rattle.written.proofs.RoundTrip.{file-rows}
+use Rattle.entries.specs.JudgeRules.{Judged}
+use Rattle.demands.specs.Outcomes.{Checks}
+use Rattle.demands.specs.Answers.{Fails, Short}
+use Rattle.demands.proofs.Demands.{accepted-iff, first-line, too-early, same-iff, written-iff, judged as judged-iff}
+use Rattle.demands.proofs.WriteAnswers.{written-zero}
+
+-- lines, each with the byte 10 that ends it
+abbrev file : List String → List ℕ
+file [] = []
+file (l ∷ ls) = ascii l ++ (10 ∷ file ls)
+
+abbrev library : List ℕ
+library = file (".HEADER" ∷ "LIBRARY_FILE 3.0 s 2024/05/06.07:08:09 1" ∷ ".END_HEADER" ∷ [])
+
+-- the same in other words, and another system
+abbrev other-words : List ℕ
+other-words = file ("# a comment" ∷ ".header" ∷ "LIBRARY_FILE  3 \"s\" 2024/05/06.07:08:09 +01" ∷ ".End_Header" ∷ "" ∷ [])
+
+abbrev other-list : List ℕ
+other-list = file (".HEADER" ∷ "LIBRARY_FILE 3.0 t 2024/05/06.07:08:09 1" ∷ ".END_HEADER" ∷ [])
+
+-- refused on line 1; on line 2; too early
+abbrev misplaced : List ℕ
+misplaced = file ("LIBRARY_FILE" ∷ [])
+
+abbrev misquoted : List ℕ
+misquoted = file (".HEADER" ∷ "\"s" ∷ [])
+
+abbrev begun : List ℕ
+begun = file (".HEADER" ∷ [])
+
+-- a board with one part, a library with its entry
+abbrev board : List ℕ
+board =
+    file
+    (".HEADER"
+    ∷ "BOARD_FILE 3.0 s 2024/05/06.07:08:09 1"
+    ∷ "n MM"
+    ∷ ".END_HEADER"
+    ∷ ".BOARD_OUTLINE MCAD"
+    ∷ "1.6"
+    ∷ "0 0 0 0"
+    ∷ "0 5 0 360"
+    ∷ ".END_BOARD_OUTLINE"
+    ∷ ".PLACEMENT"
+    ∷ "g p R1"
+    ∷ "1 1 0 90 TOP PLACED"
+    ∷ ".END_PLACEMENT"
+    ∷ [])
+
+abbrev entry : List ℕ
+entry = library ++ file (".ELECTRICAL" ∷ "g p MM 1.5" ∷ "0 0 0 0" ∷ "0 1 0 360" ∷ ".END_ELECTRICAL" ∷ [])
+
+-- checked, read, compared and judged
+pub answers :
+    (checkReply library ≡ reply 0 0 3)
+    × (checkReply other-words ≡ reply 0 0 3)
+    × (checkReply other-list ≡ reply 0 0 3)
+    × (checkReply misplaced ≡ reply 5 1 0)
+    × (checkReply misquoted ≡ reply 4 2 0)
+    × (checkReply begun ≡ reply 13 2 0)
+    × (checkReply board ≡ reply 0 0 13)
+    × (checkReply entry ≡ reply 0 0 8)
+    × (readReply library 29 ≡ reply 2 0 3)
+    × (readReply library 32 ≡ reply 0 0 3)
+    × (sameReply library other-words ≡ same.verdict 0 0 1 0)
+    × (sameReply library other-list ≡ same.verdict 0 0 0 0)
+    × (judgeReply board entry ≡ judging.verdict 0 0 1 0)
+    × (judgeReply board library ≡ judging.verdict 16 0 1 1)
+    × (judgeReply library entry ≡ judging.verdict 17 0 0 1)
+    × (judgeReply board board ≡ judging.verdict 17 0 0 2)
+unfolding judgeReply judging.withLibrary judging.matched judging.placed judging.placedFrom judging.typeOf judging.typeFrom entries.lacksEntry entries.hasEntry entries.entryIn entries.refers entries.sameEntry entries.sameIn entries.textIs sameReply sameLists sameRow sameFrom agreesAt sameField ignoredAt listIn readReply checkReply surveyed endedBy repeatIn usedIn sameNames sameText rowsIn traceAt traceIn turnOf lineIn judged ofKind dataBy filledBy kindOf filled fillFrom entryAt lineEnd contentLen endLen lineAs begins allOf permitted fieldsOf fieldsIn fieldOf fieldAt bareAt closedAt quotedAt endsWell span keywordOf keyFrom folded sameBytes sameWord wordKey placeOf wordsOf sections sectionNames kindAt sectionOf lineOf roleOf layoutOf typesOf keyKind dataKind mayStand mayOpen after moved stepped shapeOf manyLoops loopAfter eqZ meaning barred kept within beyond readField readNumber body whole decimals judge digitHere readInteger unsigned digits isDate fitsIn isTwo datePieces
+answers = (refl, refl, refl, refl, refl, refl, refl, refl, refl, refl, refl, refl, refl, refl, refl, refl)
+
+-- the rows of a file, written over its bytes: enough room, too little; no rows
+pub written :
+    (writeReply (rowsOf library) library 61 ≡ reply 0 0 61)
+    × (writeReply (rowsOf library) library 60 ≡ reply 14 0 61)
+    × (writeReply [] library 60 ≡ reply 15 0 0)
+    × (writeText (rowsOf other-words) other-words (replicate 61 46) ≡ library)
+unfolding writeReply writeText textOf lineText canonicalRecord canonicalLine canonicalFields canonicalField canonical.written joined needsQuotes isEmpty printed signOf magnitudeOf numeralOf decimalsOf wordAt isKind wholeRows chunks writable carries rowStep twice namedIn namesIt sameNames sameText rowFits fieldsFit allZero rangeFits liesIn integerFits numberFits wordFits fits goodText valuesIn rowsIn traceAt traceIn turnOf lineIn judged ofKind dataBy filledBy kindOf filled fillFrom entryAt lineEnd contentLen endLen lineAs begins allOf permitted fieldsOf fieldsIn fieldOf fieldAt bareAt closedAt quotedAt endsWell span keywordOf keyFrom folded sameBytes sameWord wordKey placeOf wordsOf sections sectionNames kindAt sectionOf lineOf roleOf layoutOf typesOf keyKind dataKind mayStand mayOpen after moved stepped shapeOf manyLoops loopAfter eqZ meaning barred kept within beyond readField readNumber body whole decimals judge digitHere readInteger unsigned digits isDate fitsIn isTwo datePieces
+written = (refl, refl, refl, refl)
+
+-- so they meet the premises
+
+checked : {f : List ℕ} {r : Reply} → checkReply f ≡ r → Checks f r
+checked e = record { answer = sym e }
+
+listed : (f : List ℕ) {n : ℕ} → checkReply f ≡ reply 0 0 n → length f ≤ limit → (rs : List Rec) × FileSays Idf3 rs f
+listed f e h = accepted-iff (checked e) h .0 refl
+
+-- files within the limit that say a list, two of them the same one; and rows that do
+pub library-says : (rs : List Rec) × FileSays Idf3 rs library
+library-says = listed library (answers .0) (omega arith)
+
+pub other-says : FileSays Idf3 (library-says .0) other-words
+other-says =
+    let o = listed other-words (answers .1) (omega arith) in
+    let e = same-iff {v = same.verdict 0 0 1 0} (record { answer = sym (answers .10) }) (omega arith) (omega arith) (library-says .1) (o .1) .0 .0 refl in
+    subst (λ (rs : List Rec). FileSays Idf3 rs other-words) (sym e) (o .1)
+
+pub board-says : (rs : List Rec) × FileSays Idf3 rs board
+board-says = listed board (answers .6) (omega arith)
+
+pub entry-says : (rs : List Rec) × FileSays Idf3 rs entry
+entry-says = listed entry (answers .7) (omega arith)
+
+pub rows-say : RowsSay library (library-says .0) (rowsOf library)
+rows-say = file-rows library (library-says .1)
+
+-- a list whose canonical text is within the limit
+pub text-small : length (canonicalText Idf3 (library-says .0)) ≤ limit
+text-small = written-zero (rowsOf library) library (replicate 61 46) rows-say (written-iff .0 (record { answer = sym (written .0); left = refl })) refl .0
+
+-- a file that says none, and whose first line, or second, no further lines can mend; one that only ends too early; one over the limit
+pub fails-at-once : Fails (linesOf misplaced) 0
+fails-at-once = first-line (checked (answers .3)) (omega arith) (lines-sound misplaced) 0 .0 (omega arith, omega arith, refl)
+
+pub fails-later : Fails (linesOf misquoted) 1
+fails-later = first-line (checked (answers .4)) (omega arith) (lines-sound misquoted) 1 .0 (omega arith, omega arith, refl)
+
+pub ends-early : Short (linesOf begun) begun
+ends-early = too-early (checked (answers .5)) (omega arith) (lines-sound begun) .0 .0 refl
+
+pub over-the-limit : (n : ℕ) → limit < n → Checks (replicate n 35) (reply 1 0 0)
+over-the-limit n h = checked (check-large (replicate n 35) (omega (arith, length-replicate {A = ℕ} n 35)))
+
+-- rows that say no list
+pub nothing-said : (rs : List Rec) → RowsSay library rs [] → ⊥
+nothing-said rs s = unwritable-iff [] library 60 .0 (ap (λ (r : Reply). r .number) (written .2)) (rs, s)
+
+-- a board that is served, and one that lacks an entry
+pub board-judged : Judged (board-says .0) (entry-says .0) (judging.verdict 0 0 1 0) × Judged (board-says .0) (library-says .0) (judging.verdict 16 0 1 1)
+board-judged = (
+  judged-iff (omega arith) (omega arith) (board-says .1) (entry-says .1) .0 (record { answer = sym (answers .12) }),
+  judged-iff (omega arith) (omega arith) (board-says .1) (library-says .1) .0 (record { answer = sym (answers .13) }),
+)

@@ -1,0 +1,13 @@
+pub mod Contracts
+pub mod Outside
+pub mod Answers
+pub mod WriteAnswers
+pub mod Demands
+pub mod Examples
+pub mod PTable
+pub mod TightBytes
+pub mod TightRecords
+pub mod TightReading
+pub mod TightFiles
+pub mod TightViewer
+pub mod TightOutside

@@ -1,0 +1,51 @@
+-- The functions for other languages: the numbers that each leaves behind `reply` are those of an outcome of the operation.
+use mathlib.Core.Path.{_≡_, refl}
+use contract.Lifetimes.{Lfts}
+use denote.Triple.Clauses.{AtExit}
+use denote.Ref.{now}
+use borrow.Fn.Kinds.{Dens, resT, endedOf}
+use lib.ListN.{length}
+use Rattle.reading.specs.declared.Reply.{Reply}
+use Rattle.reading.specs.Replies.{checkReply, readReply}
+use Rattle.writing.specs.Outcomes.{writeReply}
+use Rattle.comparing.specs.declared.Verdict as compared
+use Rattle.comparing.specs.Verdicts.{sameReply}
+use Rattle.judging.specs.declared.Verdict as judged
+use Rattle.judging.specs.Verdicts.{judgeReply}
+use Rattle.quayladle.specs.Numbers.{ofOne, ofSame, ofJudged}
+use Rattle.quayladle.proofs.quayladle_check.Kinds as check
+use Rattle.quayladle.proofs.quayladle_check.Reads as check-says
+use Rattle.quayladle.proofs.quayladle_read.Kinds as read
+use Rattle.quayladle.proofs.quayladle_read.Reads as read-says
+use Rattle.quayladle.proofs.quayladle_write.Kinds as write
+use Rattle.quayladle.proofs.quayladle_write.Reads as write-says
+use Rattle.quayladle.proofs.quayladle_same.Kinds as same
+use Rattle.quayladle.proofs.quayladle_same.Reads as same-says
+use Rattle.quayladle.proofs.quayladle_judge.Kinds as judge
+use Rattle.quayladle.proofs.quayladle_judge.Reads as judge-says
+use Rattle.demands.specs.Outcomes.{Checks, Reads, Writes, Compares, Judges}
+
+pub outside-check : (κs : Lfts 2) (a : Dens κs check.ps) (r : resT check.r κs .Denot) (s : AtExit (endedOf 2 check.ps check.r) κs)
+    → check-says.Learnt κs a r s
+    → (q : Reply) × Checks (now (a .0)) q × (now (s .1 .0) ≡ ofOne q)
+outside-check κs a r s e = (checkReply (now (a .0)), record { answer = refl }, e)
+
+pub outside-read : (κs : Lfts 3) (a : Dens κs read.ps) (r : resT read.r κs .Denot) (s : AtExit (endedOf 3 read.ps read.r) κs)
+    → read-says.Learnt κs a r s
+    → (q : Reply) × Reads (now (a .0)) (now (a .1 .0)) q (now (s .1 .0)) × (now (s .1 .1 .0) ≡ ofOne q)
+outside-read κs a r s e = (readReply (now (a .0)) (length (now (a .1 .0))), record { answer = refl; left = e .1 }, e .0)
+
+pub outside-write : (κs : Lfts 4) (a : Dens κs write.ps) (r : resT write.r κs .Denot) (s : AtExit (endedOf 4 write.ps write.r) κs)
+    → write-says.Learnt κs a r s
+    → (q : Reply) × Writes (now (a .0)) (now (a .1 .0)) (now (a .1 .1 .0)) q (now (s .1 .1 .0)) × (now (s .1 .1 .1 .0) ≡ ofOne q)
+outside-write κs a r s e = (writeReply (now (a .0)) (now (a .1 .0)) (length (now (a .1 .1 .0))), record { answer = refl; left = e .1 }, e .0)
+
+pub outside-same : (κs : Lfts 3) (a : Dens κs same.ps) (r : resT same.r κs .Denot) (s : AtExit (endedOf 3 same.ps same.r) κs)
+    → same-says.Learnt κs a r s
+    → (v : compared.Verdict) × Compares (now (a .0)) (now (a .1 .0)) v × (now (s .1 .1 .0) ≡ ofSame v)
+outside-same κs a r s e = (sameReply (now (a .0)) (now (a .1 .0)), record { answer = refl }, e)
+
+pub outside-judge : (κs : Lfts 3) (a : Dens κs judge.ps) (r : resT judge.r κs .Denot) (s : AtExit (endedOf 3 judge.ps judge.r) κs)
+    → judge-says.Learnt κs a r s
+    → (v : judged.Verdict) × Judges (now (a .0)) (now (a .1 .0)) v × (now (s .1 .1 .0) ≡ ofJudged v)
+outside-judge κs a r s e = (judgeReply (now (a .0)) (now (a .1 .0)), record { answer = refl }, e)

@@ -1,0 +1,31 @@
+-- What the contracts of `check`, `read`, `write`, `same` and `judge` allow: an answer r, and what the lent slice holds afterwards.
+use Prim.Native.Nat.{ℕ}
+use mathlib.Core.Path.{_≡_}
+use mathlib.Core.List.{List}
+use lib.IntN.{ℤ}
+use lib.ListN.{length}
+use Rattle.reading.specs.declared.Reply.{Reply}
+use Rattle.reading.specs.Replies.{checkReply, readReply, readRows}
+use Rattle.writing.specs.Outcomes.{writeReply, writeText}
+use Rattle.comparing.specs.declared.Verdict as compared
+use Rattle.comparing.specs.Verdicts.{sameReply}
+use Rattle.judging.specs.declared.Verdict as judged
+use Rattle.judging.specs.Verdicts.{judgeReply}
+
+pub record Checks (file : List ℕ) (r : Reply) : Type 0 where
+  pub answer : r ≡ checkReply file
+
+-- the slice held `old` and then holds `new`
+pub record Reads (file : List ℕ) (old : List ℤ) (r : Reply) (new : List ℤ) : Type 0 where
+  pub answer : r ≡ readReply file (length old)
+  pub left : new ≡ readRows file old
+
+pub record Writes (rows : List ℤ) (bytes old : List ℕ) (r : Reply) (new : List ℕ) : Type 0 where
+  pub answer : r ≡ writeReply rows bytes (length old)
+  pub left : new ≡ writeText rows bytes old
+
+pub record Compares (first second : List ℕ) (r : compared.Verdict) : Type 0 where
+  pub answer : r ≡ sameReply first second
+
+pub record Judges (board library : List ℕ) (r : judged.Verdict) : Type 0 where
+  pub answer : r ≡ judgeReply board library
