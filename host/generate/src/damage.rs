@@ -141,3 +141,13 @@ fn field_at(file: &[u8], at: usize) -> Range<usize> {
     let length = file[start..].iter().position(parts);
     start..length.map_or(file.len(), |length| start + length)
 }
+
+/// A number near another one, or one at a limit.
+pub fn changed(random: &mut Random, number: i64) -> i64 {
+    match random.below(4) {
+        0 => number + 1,
+        1 => number - 1,
+        2 => random.pick(&[0, 1, 10, 36_000_000, 99_999_999_999, 100_000_000_000, -1_000_000_000]),
+        _ => random.pick(&[i64::MIN, i64::MAX, -1, 3, 300_000, 999_999_999]),
+    }
+}

@@ -11,6 +11,22 @@ mod random;
 mod sections;
 mod values;
 
-pub use damage::damaged;
+pub use damage::{changed, damaged};
 pub use files::{board, library, matched, panel};
 pub use random::Random;
+
+/// A small file by its number: those of even numbers are whole, the others damaged.
+pub fn file(seed: u64) -> Vec<u8> {
+    let mut random = Random::new(seed);
+    let size = random.below(900);
+    let whole = match random.below(3) {
+        0 => board(&mut random, size),
+        1 => panel(&mut random, size),
+        _ => library(&mut random, size),
+    };
+    if seed % 2 == 0 {
+        whole
+    } else {
+        damaged(&mut random, &whole)
+    }
+}

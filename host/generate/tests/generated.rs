@@ -3,26 +3,10 @@
 
 use std::collections::BTreeSet;
 
-use generate::{board, damaged, library, matched, panel, Random};
+use generate::{changed, file, matched, Random};
 use second::{canon, check, judge, read, rows, same, write, Reader, Reply};
 
 const FILES: u64 = 20_000;
-
-/// A file by its number: half of them whole, half damaged.
-fn file(seed: u64) -> Vec<u8> {
-    let mut random = Random::new(seed);
-    let size = random.below(900);
-    let whole = match random.below(3) {
-        0 => board(&mut random, size),
-        1 => panel(&mut random, size),
-        _ => library(&mut random, size),
-    };
-    if seed % 2 == 0 {
-        whole
-    } else {
-        damaged(&mut random, &whole)
-    }
-}
 
 #[test]
 fn whole_files_are_accepted_and_hold_every_kind_of_line() {
@@ -163,16 +147,6 @@ fn rows_that_are_written_are_read_back() {
         }
     }
     assert!(seen[0] > 1000 && seen[15] > 1000, "{seen:?}");
-}
-
-/// A number near another one, or one at a limit.
-fn changed(random: &mut Random, number: i64) -> i64 {
-    match random.below(4) {
-        0 => number + 1,
-        1 => number - 1,
-        2 => random.pick(&[0, 1, 10, 36_000_000, 99_999_999_999, 100_000_000_000, -1_000_000_000]),
-        _ => random.pick(&[i64::MIN, i64::MAX, -1, 3, 300_000, 999_999_999]),
-    }
 }
 
 #[test]

@@ -1,6 +1,10 @@
 //! The proved library on the cases of the second reader's list; the README beside the list says how
 //! a line is made.
 
+#[path = "../../second/tests/columns/mod.rs"]
+mod columns;
+
+use columns::{bytes, column, edit};
 use quayladle::{canon, check, judge, rows, same, write, Reader, Reply, Verdict};
 
 /// Bytes lent to the writer where a case does not say how many.
@@ -35,28 +39,6 @@ fn difference(case: &str) -> Option<String> {
     (came != expected).then(|| format!("{name}: came {came}, expected {expected}"))
 }
 
-/// The bytes that an escaped column stands for.
-fn bytes(column: &str) -> Vec<u8> {
-    let mut parts = column.split("\\x");
-    let mut out = parts.next().unwrap_or("").as_bytes().to_vec();
-    for part in parts {
-        let (code, rest) = part.split_at(2);
-        out.push(u8::from_str_radix(code, 16).expect("two hexadecimal digits"));
-        out.extend_from_slice(rest.as_bytes());
-    }
-    out
-}
-
-/// The column that stands for some bytes.
-fn column(bytes: &[u8]) -> String {
-    let one = |&byte: &u8| match byte {
-        b'\\' => "\\x5C".to_string(),
-        b' '..=b'~' => char::from(byte).to_string(),
-        _ => format!("\\x{byte:02X}"),
-    };
-    bytes.iter().map(one).collect()
-}
-
 fn plain(reply: Reply) -> String {
     format!("{},{},{}", reply.number, reply.line, reply.count)
 }
@@ -74,17 +56,7 @@ fn row_of(file: &[u8], number: &str) -> String {
 /// Writes the rows of a file after some edits, and sees that only the text is written.
 fn written(file: &[u8], edits: &str) -> String {
     let mut list = rows(file).expect("an accepted file");
-    let mut room = ROOM;
-    for edit in edits.split(',') {
-        let (place, value) = edit.split_once('=').expect("an edit");
-        match place.strip_prefix('r').and_then(|place| place.split_once('c')) {
-            Some((row, column)) => {
-                let at = |number: &str| number.parse::<usize>().expect("a place from 1") - 1;
-                list[at(row)][at(column)] = value.parse().expect("a number");
-            }
-            None => room = value.parse().expect("a room"),
-        }
-    }
+    let room = edit(&mut list, edits).unwrap_or(ROOM);
     let mut out = vec![MARK; room];
     let reply = write(&list.concat(), file, &mut out);
     let used = if reply.number == 0 { reply.count as usize } else { 0 };

@@ -3,26 +3,10 @@
 mod common;
 
 use common::{agreed, agreed_on_both, agreed_on_rows};
-use generate::{board, damaged, library, matched, panel, Random};
+use generate::{changed, damaged, file, matched, Random};
 
 const FILES: u64 = 20_000;
 const PAIRS: u64 = 4_000;
-
-/// A file by its number: half of them whole, half damaged.
-fn file(seed: u64) -> Vec<u8> {
-    let mut random = Random::new(seed);
-    let size = random.below(900);
-    let whole = match random.below(3) {
-        0 => board(&mut random, size),
-        1 => panel(&mut random, size),
-        _ => library(&mut random, size),
-    };
-    if seed % 2 == 0 {
-        whole
-    } else {
-        damaged(&mut random, &whole)
-    }
-}
 
 #[test]
 fn one_file() {
@@ -65,16 +49,6 @@ fn changed_rows() {
     }
     println!("{} lists of rows, replies by number: {seen:?}", FILES / 2);
     assert!(seen[0] > 0 && seen[15] > 0, "{seen:?}");
-}
-
-/// A number near another one, or one at a limit.
-fn changed(random: &mut Random, number: i64) -> i64 {
-    match random.below(4) {
-        0 => number + 1,
-        1 => number - 1,
-        2 => random.pick(&[0, 1, 10, 36_000_000, 99_999_999_999, 100_000_000_000, -1_000_000_000]),
-        _ => random.pick(&[i64::MIN, i64::MAX, -1, 3, 300_000, 999_999_999]),
-    }
 }
 
 /// Two files by their number: a board and its library, or a file and its canonical text; in half of
