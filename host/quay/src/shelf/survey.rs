@@ -32,9 +32,10 @@ pub fn survey(folder: &Path, all: bool) -> Result<Shelf, Failure> {
         paths.into_par_iter().map(|path| filed(folder, path)).inspect(|_| bar.inc(1)).collect();
     bar.finish_and_clear();
     let files = kept(read, &mut unreadable);
-    let groups = candidates(&files).into_par_iter().map(|group| compared(&files, &group));
-    let mut groups = kept(groups.collect(), &mut unreadable);
-    groups.retain(|group| !group.others.is_empty());
+    let groups = candidates(&files).into_par_iter().map(|places| compared(&files, places));
+    let mut groups: Vec<Group> =
+        kept(groups.collect(), &mut unreadable).into_iter().flatten().collect();
+    groups.sort_by_key(|group| group.first);
     Ok(Shelf { folder: shown(folder), files, groups, unreadable, passed_over })
 }
 
@@ -118,31 +119,52 @@ fn sha256(bytes: &[u8]) -> String {
     format!("{:x}", Sha256::digest(bytes))
 }
 
-/// The places of files with one canonical text, two or more each, in the order of the first.
+/// The places of files that may be the same, two or more each.
 fn candidates(files: &[Filed]) -> Vec<Vec<usize>> {
-    let mut by_text: BTreeMap<&str, Vec<usize>> = BTreeMap::new();
+    let mut alike: BTreeMap<String, Vec<usize>> = BTreeMap::new();
     for (place, file) in files.iter().enumerate() {
-        if let Some(text) = &file.canonical {
-            by_text.entry(text).or_default().push(place);
+        if let Some(mark) = mark(file) {
+            alike.entry(mark).or_default().push(place);
         }
     }
-    let mut groups: Vec<_> = by_text.into_values().filter(|group| group.len() > 1).collect();
-    groups.sort();
-    groups
+    alike.into_values().filter(|places| places.len() > 1).collect()
 }
 
-/// The files of a group that the proved comparison calls the same as its first: equal canonical
-/// texts only make it worth asking.
-fn compared(files: &[Filed], group: &[usize]) -> Result<Group, Unreadable> {
-    let first = again(&files[group[0]])?;
+/// What files that are the same share: the canonical text or, where that is over the limit, the
+/// number of rows. A refused file has nothing of the kind.
+fn mark(file: &Filed) -> Option<String> {
+    match &file.canonical {
+        Some(text) => Some(text.clone()),
+        None => file.reply.done().ok().map(|rows| format!("{rows} rows")),
+    }
+}
+
+/// The groups that the proved comparison finds among files: what they share only makes it worth
+/// asking.
+fn compared(files: &[Filed], mut left: Vec<usize>) -> Result<Vec<Group>, Unreadable> {
+    let mut groups = Vec::new();
+    while left.len() > 1 {
+        let group = same_as_first(files, &left)?;
+        let is_in = |place: usize| group.others.iter().any(|other| other.file == place);
+        left.retain(|&place| place != group.first && !is_in(place));
+        if !group.others.is_empty() {
+            groups.push(group);
+        }
+    }
+    Ok(groups)
+}
+
+/// The files that are the same as the first of them.
+fn same_as_first(files: &[Filed], places: &[usize]) -> Result<Group, Unreadable> {
+    let first = again(&files[places[0]])?;
     let mut others = Vec::new();
-    for &file in &group[1..] {
+    for &file in &places[1..] {
         let verdict = quayladle::same(&first, &again(&files[file])?);
         if verdict.reply == SAME {
             others.push(Member { file, verdict });
         }
     }
-    Ok(Group { first: group[0], others })
+    Ok(Group { first: places[0], others })
 }
 
 /// The bytes of a file that was read before, if they are still the same.
@@ -152,5 +174,34 @@ fn again(file: &Filed) -> Result<Vec<u8>, Unreadable> {
     match file.sha256.as_ref() == Some(&sha256(&bytes)) {
         true => Ok(bytes),
         false => Err(fault("changed while the shelf was read".to_string())),
+    }
+}
+
+#[cfg(test)]
+mod tests {
+    use super::*;
+
+    /// Files whose canonical text is over the limit have no text to be grouped by.
+    #[test]
+    fn files_are_compared_without_their_text() {
+        let folder = std::env::temp_dir().join(format!("quay-{}", std::process::id()));
+        fs::create_dir_all(&folder).expect("a folder");
+        let library = |name: &str, system: &str| {
+            let path = folder.join(name);
+            let title = format!("LIBRARY_FILE 3 {system} 2024/05/06.07:08:09 1");
+            fs::write(&path, format!(".HEADER\n{title}\n.END_HEADER\n")).expect("a file");
+            let file = filed(&folder, path).ok().expect("a file that can be read");
+            Filed { canonical: None, ..file }
+        };
+        let files = [("a", "s"), ("b", "t"), ("c", "\"s\""), ("d", "\"t\""), ("e", "u")]
+            .map(|(name, system)| library(name, system));
+        let places = candidates(&files);
+        assert_eq!(places, [[0, 1, 2, 3, 4]]);
+        let groups = compared(&files, places[0].clone()).ok().expect("files that did not change");
+        let found: Vec<_> =
+            groups.iter().map(|group| (group.first, group.others[0].file)).collect();
+        assert_eq!(found, [(0, 2), (1, 3)]);
+        assert!(groups.iter().all(|group| group.others.len() == 1));
+        fs::remove_dir_all(&folder).expect("the folder goes");
     }
 }
