@@ -54,6 +54,10 @@ use Rattle.form.proofs.layouts.column_count.Kinds as form-layouts-column-count
 use Rattle.form.proofs.layouts.column_count.Reads as form-layouts-column-count-says
 use Rattle.form.proofs.layouts.width_of.Kinds as form-layouts-width-of
 use Rattle.form.proofs.layouts.width_of.Reads as form-layouts-width-of-says
+use Rattle.form.proofs.layouts.row_of.Kinds as form-layouts-row-of
+use Rattle.form.proofs.layouts.row_of.Reads as form-layouts-row-of-says
+use Rattle.form.proofs.layouts.type_in.Kinds as form-layouts-type-in
+use Rattle.form.proofs.layouts.type_in.Reads as form-layouts-type-in-says
 use Rattle.form.proofs.layouts.field_type.Kinds as form-layouts-field-type
 use Rattle.form.proofs.layouts.field_type.Reads as form-layouts-field-type-says
 use Rattle.form.proofs.names.place_of.Kinds as form-names-place-of
@@ -66,6 +70,14 @@ use Rattle.form.proofs.names.is_prop.Kinds as form-names-is-prop
 use Rattle.form.proofs.names.is_prop.Reads as form-names-is-prop-says
 use Rattle.form.proofs.names.read_keyword.Kinds as form-names-read-keyword
 use Rattle.form.proofs.names.read_keyword.Reads as form-names-read-keyword-says
+use Rattle.slots.proofs.hash.Kinds as slots-hash
+use Rattle.slots.proofs.hash.Reads as slots-hash-says
+use Rattle.slots.proofs.slot_of.Kinds as slots-slot-of
+use Rattle.slots.proofs.slot_of.Reads as slots-slot-of-says
+use Rattle.slots.proofs.mark.Kinds as slots-mark
+use Rattle.slots.proofs.mark.Reads as slots-mark-says
+use Rattle.slots.proofs.place.Kinds as slots-place
+use Rattle.slots.proofs.place.Reads as slots-place-says
 use Rattle.demands.specs.Tight.{Tight}
 
 -- `text`
@@ -157,6 +169,12 @@ tight-form-layouts-column-count κs a r q ws us e f = (e ∙ sym f, refl)
 pub tight-form-layouts-width-of : Tight 0 form-layouts-width-of.ps form-layouts-width-of.r form-layouts-width-of-says.Learnt
 tight-form-layouts-width-of κs a r q ws us e f = (e ∙ sym f, refl)
 
+pub tight-form-layouts-row-of : Tight 0 form-layouts-row-of.ps form-layouts-row-of.r form-layouts-row-of-says.Learnt
+tight-form-layouts-row-of κs a r q ws us e f = (e ∙ sym f, refl)
+
+pub tight-form-layouts-type-in : Tight 0 form-layouts-type-in.ps form-layouts-type-in.r form-layouts-type-in-says.Learnt
+tight-form-layouts-type-in κs a r q ws us e f = (e ∙ sym f, refl)
+
 pub tight-form-layouts-field-type : Tight 0 form-layouts-field-type.ps form-layouts-field-type.r form-layouts-field-type-says.Learnt
 tight-form-layouts-field-type κs a r q ws us e f = (e ∙ sym f, refl)
 
@@ -174,3 +192,17 @@ tight-form-names-is-prop κs a r q ws us e f = (e ∙ sym f, refl)
 
 pub tight-form-names-read-keyword : Tight 1 form-names-read-keyword.ps form-names-read-keyword.r form-names-read-keyword-says.Learnt
 tight-form-names-read-keyword κs a r q ws us e f = (e ∙ sym f, refl)
+
+-- `slots`
+
+pub tight-slots-hash : Tight 1 slots-hash.ps slots-hash.r slots-hash-says.Learnt
+tight-slots-hash κs a r q ws us e f = (e ∙ sym f, refl)
+
+pub tight-slots-slot-of : Tight 0 slots-slot-of.ps slots-slot-of.r slots-slot-of-says.Learnt
+tight-slots-slot-of κs a r q ws us e f = (e ∙ sym f, refl)
+
+pub tight-slots-mark : Tight 1 slots-mark.ps slots-mark.r slots-mark-says.Learnt
+tight-slots-mark κs a r q ws us e f = (e .0 ∙ sym (f .0), λ i. ((e .1 ∙ sym (f .1)) i, ws .1))
+
+pub tight-slots-place : Tight 1 slots-place.ps slots-place.r slots-place-says.Learnt
+tight-slots-place κs a r q ws us e f = (refl, λ i. ((e ∙ sym f) i, ws .1))

@@ -44,7 +44,7 @@ tight-comparing-rows-same-row κs a r q ws us e f = (e ∙ sym f, refl)
 pub tight-judging-entries-is-of : Tight 0 judging-entries-is-of.ps judging-entries-is-of.r judging-entries-is-of-says.Learnt
 tight-judging-entries-is-of κs a r q ws us e f = (e ∙ sym f, refl)
 
-pub tight-judging-entries-lacks : Tight 2 judging-entries-lacks.ps judging-entries-lacks.r judging-entries-lacks-says.Learnt
+pub tight-judging-entries-lacks : Tight 3 judging-entries-lacks.ps judging-entries-lacks.r judging-entries-lacks-says.Learnt
 tight-judging-entries-lacks κs a r q ws us e f = (e ∙ sym f, refl)
 
 pub tight-judging-texts-text-is : Tight 2 judging-texts-text-is.ps judging-texts-text-is.r judging-texts-text-is-says.Learnt

@@ -10,8 +10,8 @@ use Rattle.reading.proofs.names.same_names.Kinds as reading-names-same-names
 use Rattle.reading.proofs.names.same_names.Reads as reading-names-same-names-says
 use Rattle.reading.proofs.names.leads_component.Kinds as reading-names-leads-component
 use Rattle.reading.proofs.names.leads_component.Reads as reading-names-leads-component-says
-use Rattle.reading.proofs.names.first_repeat.Kinds as reading-names-first-repeat
-use Rattle.reading.proofs.names.first_repeat.Reads as reading-names-first-repeat-says
+use Rattle.reading.proofs.names.key.Kinds as reading-names-key
+use Rattle.reading.proofs.names.key.Reads as reading-names-key-says
 use Rattle.reading.proofs.rows.put_row.Kinds as reading-rows-put-row
 use Rattle.reading.proofs.rows.put_row.Reads as reading-rows-put-row-says
 use Rattle.reading.proofs.rows.put_rows.Kinds as reading-rows-put-rows
@@ -47,8 +47,8 @@ tight-reading-names-same-names κs a r q ws us e f = (e ∙ sym f, refl)
 pub tight-reading-names-leads-component : Tight 0 reading-names-leads-component.ps reading-names-leads-component.r reading-names-leads-component-says.Learnt
 tight-reading-names-leads-component κs a r q ws us e f = (e ∙ sym f, refl)
 
-pub tight-reading-names-first-repeat : Tight 1 reading-names-first-repeat.ps reading-names-first-repeat.r reading-names-first-repeat-says.Learnt
-tight-reading-names-first-repeat κs a r q ws us e f = (e ∙ sym f, refl)
+pub tight-reading-names-key : Tight 1 reading-names-key.ps reading-names-key.r reading-names-key-says.Learnt
+tight-reading-names-key κs a r q ws us e f = (e ∙ sym f, refl)
 
 pub tight-reading-rows-put-row : Tight 1 reading-rows-put-row.ps reading-rows-put-row.r reading-rows-put-row-says.Learnt
 tight-reading-rows-put-row κs a r q ws us e f = (refl, λ i. ((e ∙ sym f) i, ws .1))

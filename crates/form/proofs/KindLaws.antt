@@ -1,5 +1,5 @@
 -- Laws of kinds and of the table of layouts.
-use Prim.Native.Nat.{ℕ, zero, suc, _+_, _*_, _-_, _/_, _%_, _≤_, _<_}
+use Prim.Native.Nat.{ℕ, zero, suc, _+_, _*_, _-_, _≤_, _<_}
 use mir.Syntax.{w64}
 use mir.Val.{Fits}
 use mathlib.Core.Path.{_≡_, refl, sym, ap, _∙_}
@@ -91,27 +91,8 @@ pub kind-is : (v : Rules) (k : ℕ) → not (eqb (letterAt v k) 64) ≡ isKind v
 kind-is v k = flag-eq _ _ (and-right (row-right v k) _ (and-right (letter-right v k) _ (all-right v k)))
 
 -- what the code reads off the tables: l is the letter of a kind, row its row
-module _ (v : Rules) (k l : ℕ) (e : l ≡ letterAt v k) where
-  pub letter-from : 64 ≤ l
-  letter-from = rw e (letter-low v k)
-
-  pub letter-row : l - 64 < 17
-  letter-row = rw e (omega (arith, letter-low v k, letter-high v k))
-
-  pub letter-kind : not (eqb l 64) ≡ isKind v k
-  letter-kind = rw e (kind-is v k)
-
-pub letter-none : (v : Rules) (k : ℕ) → 159 < k → 64 ≡ letterAt v k
-unfolding letterAt
-letter-none v k h = rw (lt-leb k 159 h)
-
-pub letter-in : (v : Rules) (k : ℕ) → k ≤ 159 → getD (getD lineTable (k / 10) []) (k % 10) 0 ≡ letterAt v k
-unfolding letterAt
-letter-in v k h = rw (le-leb k 159 h)
-
-pub row-at-letter : (v : Rules) (k l : ℕ) → l ≡ letterAt v k → getD layoutTable (l - 64) [] ≡ rowOf v k
-unfolding rowOf
-row-at-letter v k l e = rw e
+pub letter-kind : (v : Rules) (k l : ℕ) → l ≡ letterAt v k → not (eqb l 64) ≡ isKind v k
+letter-kind v k l e = rw e (kind-is v k)
 
 module _ (v : Rules) (k : ℕ) (row : List ℕ) (e : row ≡ rowOf v k) where
   same : row ≡ rowFor (typesOf v k)

@@ -1,4 +1,5 @@
 pub mod PaddedLaws
 pub mod NameLaws
 pub mod KindLaws
+pub mod TableLaws
 pub mod RowLaws

@@ -144,6 +144,10 @@ lineTable =
     ∷ ascii "ANO@@@@@@A"
     ∷ []
 
+-- the letter of line n of section s
+unfoldable pub lineLetter : ℕ → ℕ → ℕ
+lineLetter s n = getD (getD lineTable s []) n 0
+
 -- the layout of a kind, by its letter: @ of a kind that no section has
 unfoldable pub letterAt : Rules → ℕ → ℕ
 letterAt v k = cond (leb k 159) (getD (getD lineTable (k / 10) []) (k % 10) 0) 64

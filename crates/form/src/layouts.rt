@@ -4,53 +4,46 @@ use crate::Limit;
 use crate::Rules;
 use crate::Words;
 ghost use mathlib.Core.Path.{_≡_};
-ghost use Prim.Native.Nat.{_+_, _<_};
+ghost use Prim.Native.Nat.{_+_, _≤_, _<_};
 ghost use lib.ListN.{length};
 ghost use Rattle.form.specs.Layouts.{typesOf};
 ghost use Rattle.form.specs.Kinds.{sectionOf};
-ghost use Rattle.form.specs.Letters.{letterAt, rowOf, isKind, typeAt, typeNamed, widthOf, widths};
+ghost use Rattle.form.specs.Letters.{lineLetter, letterAt, rowOf, isKind, typeAt, typeNamed, widthOf, widths};
 
+// The row of each layout: how many fields, how many columns they fill, and the letter of each field's type.
 // Letters of types: T text, R reference, D date, I integer; V version, L length, N length from zero on, P length above zero,
 // A included angle, r rotation; words: f file types, u units, o owners, t faces, s sides, l layers, p plates, x statuses.
-const LAYOUTS: [[u8; 9]; 17] = [
-    *b"00       ", // @ no such kind
-    *b"00       ", // A a keyword alone
-    *b"11o      ", // B an opening line and its owner
-    *b"57fVTDI  ", // C file type, version, system, date, file version number
-    *b"23Tu     ", // D name, unit
-    *b"11L      ", // E thickness
-    *b"34TNt    ", // F identifier, thickness, side
-    *b"11l      ", // G layers
-    *b"22sN     ", // H side, height
-    *b"23sT     ", // I side, group
-    *b"79PLLpTTo", // J diameter, x, y, plating, part, hole type, owner
-    *b"56LLLLT  ", // K x, y, height, length, text
-    *b"36TTR    ", // L package, part number, reference
-    *b"66LLNrtx ", // M x, y, offset, rotation, side, status
-    *b"46TTuL   ", // N geometry, part, unit, height
-    *b"44ILLA   ", // O label, x, y, angle
-    *b"24TT     ", // P property: name, value
-];
+const NO_FIELDS: [u8; 9] = *b"00       "; // A a keyword alone, and @ no such kind
 
-// The layout of line n of section s: 0 opens it, 9 closes it.
-const LINES: [[u8; 10]; 16] = [
-    *b"@@@@@@@@@@",
-    *b"ACD@@@@@@A", // 1 HEADER
-    *b"BEO@@@@@@A", // 2 BOARD_OUTLINE
-    *b"BEO@@@@@@A", // 3 PANEL_OUTLINE
-    *b"BFO@@@@@@A", // 4 OTHER_OUTLINE
-    *b"BGO@@@@@@A", // 5 ROUTE_OUTLINE
-    *b"BHO@@@@@@A", // 6 PLACE_OUTLINE
-    *b"BGO@@@@@@A", // 7 ROUTE_KEEPOUT
-    *b"BO@@@@@@@A", // 8 VIA_KEEPOUT
-    *b"BHO@@@@@@A", // 9 PLACE_KEEPOUT
-    *b"BIO@@@@@@A", // 10 PLACE_REGION
-    *b"AJ@@@@@@@A", // 11 DRILLED_HOLES
-    *b"AK@@@@@@@A", // 12 NOTES
-    *b"ALM@@@@@@A", // 13 PLACEMENT
-    *b"ANOP@@@@@A", // 14 ELECTRICAL
-    *b"ANO@@@@@@A", // 15 MECHANICAL
-];
+const OWNER: [u8; 9] = *b"11o      "; // B an opening line and its owner
+
+const TITLE: [u8; 9] = *b"57fVTDI  "; // C file type, version, system, date, file version number
+
+const NAME: [u8; 9] = *b"23Tu     "; // D name, unit
+
+const THICKNESS: [u8; 9] = *b"11L      "; // E thickness
+
+const OTHER: [u8; 9] = *b"34TNt    "; // F identifier, thickness, side
+
+const LAYERS: [u8; 9] = *b"11l      "; // G layers
+
+const HEIGHT: [u8; 9] = *b"22sN     "; // H side, height
+
+const GROUP: [u8; 9] = *b"23sT     "; // I side, group
+
+const HOLE: [u8; 9] = *b"79PLLpTTo"; // J diameter, x, y, plating, part, hole type, owner
+
+const NOTE: [u8; 9] = *b"56LLLLT  "; // K x, y, height, length, text
+
+const PART: [u8; 9] = *b"36TTR    "; // L package, part number, reference
+
+const POSITION: [u8; 9] = *b"66LLNrtx "; // M x, y, offset, rotation, side, status
+
+const COMPONENT: [u8; 9] = *b"46TTuL   "; // N geometry, part, unit, height
+
+const POINT: [u8; 9] = *b"44ILLA   "; // O label, x, y, angle
+
+const PROPERTY: [u8; 9] = *b"24TT     "; // P property: name, value
 
 // The section of a row's kind, 0 where no section has it.
 pub fn section_of(v: Rules, kind: u64) -> u64
@@ -78,6 +71,85 @@ pub fn section_of(v: Rules, kind: u64) -> u64
     }
 }
 
+// The letter of the opening line of a section.
+fn opening_letter(s: u64) -> u8
+    requires { ⌜ s ≤ 15 ⌝ }
+    ensures { λ r. ⌜ r ≡ lineLetter s 0 ⌝ }
+{
+    match s {
+        0 => 64,
+        1 => 65, // HEADER
+        2..=10 => 66, // outlines, keepouts and the region have an owner
+        _ => 65,
+    }
+}
+
+// The letter of the first data line of a section.
+fn first_letter(s: u64) -> u8
+    requires { ⌜ s ≤ 15 ⌝ }
+    ensures { λ r. ⌜ r ≡ lineLetter s 1 ⌝ }
+{
+    match s {
+        1 => 67, // HEADER
+        2 => 69, // BOARD_OUTLINE
+        3 => 69, // PANEL_OUTLINE
+        4 => 70, // OTHER_OUTLINE
+        5 => 71, // ROUTE_OUTLINE
+        6 => 72, // PLACE_OUTLINE
+        7 => 71, // ROUTE_KEEPOUT
+        8 => 79, // VIA_KEEPOUT
+        9 => 72, // PLACE_KEEPOUT
+        10 => 73, // PLACE_REGION
+        11 => 74, // DRILLED_HOLES
+        12 => 75, // NOTES
+        13 => 76, // PLACEMENT
+        14 => 78, // ELECTRICAL
+        15 => 78, // MECHANICAL
+        _ => 64,
+    }
+}
+
+// The letter of the second data line of a section.
+fn second_letter(s: u64) -> u8
+    requires { ⌜ s ≤ 15 ⌝ }
+    ensures { λ r. ⌜ r ≡ lineLetter s 2 ⌝ }
+{
+    match s {
+        1 => 68, // HEADER
+        2 => 79, // BOARD_OUTLINE
+        3 => 79, // PANEL_OUTLINE
+        4 => 79, // OTHER_OUTLINE
+        5 => 79, // ROUTE_OUTLINE
+        6 => 79, // PLACE_OUTLINE
+        7 => 79, // ROUTE_KEEPOUT
+        8 => 64, // VIA_KEEPOUT
+        9 => 79, // PLACE_KEEPOUT
+        10 => 79, // PLACE_REGION
+        11 => 64, // DRILLED_HOLES
+        12 => 64, // NOTES
+        13 => 77, // PLACEMENT
+        14 => 79, // ELECTRICAL
+        15 => 79, // MECHANICAL
+        _ => 64,
+    }
+}
+
+// The letter of the third data line of a section: ELECTRICAL has PROP lines.
+fn third_letter(s: u64) -> u8
+    requires { ⌜ s ≤ 15 ⌝ }
+    ensures { λ r. ⌜ r ≡ lineLetter s 3 ⌝ }
+{
+    if s == 14 { 80 } else { 64 }
+}
+
+// The letter of the closing line of a section.
+fn closing_letter(s: u64) -> u8
+    requires { ⌜ s ≤ 15 ⌝ }
+    ensures { λ r. ⌜ r ≡ lineLetter s 9 ⌝ }
+{
+    if s == 0 { 64 } else { 65 }
+}
+
 // The letter of a kind's layout.
 fn letter_at(v: Rules, kind: u64) -> u8
     ensures { λ r. ⌜ r ≡ letterAt v kind ⌝ }
@@ -85,19 +157,40 @@ fn letter_at(v: Rules, kind: u64) -> u8
     if 159 < kind {
         return 64;
     }
-    let s = (kind / 10) as usize;
-    let n = (kind % 10) as usize;
-    let row = LINES[s];
-    row[n]
+    let s = kind / 10;
+    match kind % 10 {
+        0 => opening_letter(s),
+        1 => first_letter(s),
+        2 => second_letter(s),
+        3 => third_letter(s),
+        9 => closing_letter(s),
+        _ => 64,
+    }
 }
 
 // The row of a kind's layout.
-fn row_of(v: Rules, kind: u64) -> [u8; 9]
+pub fn row_of(v: Rules, kind: u64) -> [u8; 9]
     ensures { λ r. ⌜ r ≡ rowOf v kind ⌝ }
 {
-    let l = letter_at(v, kind);
-    let at = (l - 64) as usize;
-    LAYOUTS[at]
+    match letter_at(v, kind) {
+        65 => NO_FIELDS,
+        66 => OWNER,
+        67 => TITLE,
+        68 => NAME,
+        69 => THICKNESS,
+        70 => OTHER,
+        71 => LAYERS,
+        72 => HEIGHT,
+        73 => GROUP,
+        74 => HOLE,
+        75 => NOTE,
+        76 => PART,
+        77 => POSITION,
+        78 => COMPONENT,
+        79 => POINT,
+        80 => PROPERTY,
+        _ => NO_FIELDS,
+    }
 }
 
 // Whether some section has a kind.
@@ -163,11 +256,18 @@ fn type_of(letter: u8) -> FieldType
     }
 }
 
+// The type of a field of a line of a kind, fields counted from 0, by the row of the kind's layout.
+pub fn type_in(v: Rules, kind: u64, row: [u8; 9], i: usize) -> FieldType
+    requires { ⌜ (row ≡ rowOf v kind) × (i < length (typesOf v kind)) ⌝ }
+    ensures { λ r. ⌜ r ≡ typeAt (typesOf v kind) i ⌝ }
+{
+    type_of(row[i + 2])
+}
+
 // The type of a field of a line of a kind, fields counted from 0.
 pub fn field_type(v: Rules, kind: u64, i: usize) -> FieldType
     requires { ⌜ i < length (typesOf v kind) ⌝ }
     ensures { λ r. ⌜ r ≡ typeAt (typesOf v kind) i ⌝ }
 {
-    let row = row_of(v, kind);
-    type_of(row[i + 2])
+    type_in(v, kind, row_of(v, kind), i)
 }

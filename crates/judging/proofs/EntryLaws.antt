@@ -20,7 +20,7 @@ use Rattle.reading.specs.Walks.{limit, begun, turnOf, stopsBy, isRow, Steady, T
 use Rattle.reading.proofs.WalkLaws.{Going, going-start, going-trace, going-less, going-more, going-end}
 use Rattle.judging.specs.Entries.{noReference, textIs, sameIn, sameEntry, refers, isOf, isEntry, entryIn, hasEntry, lacksEntry, lacks}
 
-abbrev column : List ℤ → ℕ → ℤ
+abbrev pub column : List ℤ → ℕ → ℤ
 column row i = back (columnAt row i)
 
 -- an entry's name is two texts

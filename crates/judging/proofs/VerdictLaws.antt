@@ -4,12 +4,12 @@ use mathlib.Core.Path.{_≡_, refl, sym, ap, _∙_}
 use mathlib.Core.List.{List}
 use mathlib.Core.Bool.{Bool, true, false, not, cond, _&&_, true≢false, false≢true}
 use native.Mathlib.Omega.{arith}
-use borrow.Author.Tests.{eq-eqb, ne-eqb, ltb-false}
+use borrow.Author.Tests.{eq-eqb, ne-eqb, ltb-false, not-true, not-false}
 use lib.Dec.{ltb, eqb}
 use lib.IntN.{ℤ, pos}
 use lib.ListN.{length}
 use Rattle.form.specs.declared.FileType.{FileType}
-use Rattle.form.specs.declared.FileType.the-variants.{Library}
+use Rattle.form.specs.declared.FileType.the-variants.{Board, Panel, Library}
 use Rattle.loops.specs.Loops.{eqZ}
 use Rattle.records.specs.Marks.{isLibrary}
 use Rattle.reading.specs.declared.Found.{Found}
@@ -24,7 +24,7 @@ use Rattle.reading.specs.Replies.{reply, survey, checkReply}
 use Rattle.reading.proofs.WalkLaws.{Going, going-start, going-trace, going-past, going-less, going-more, going-end}
 use Rattle.judging.specs.declared.Verdict.{Verdict}
 use Rattle.judging.specs.Entries.{isOf, lacksEntry, lacks}
-use Rattle.judging.specs.Verdicts.{verdict, refusedAs, typeFrom, typeOf, numbered, placedFrom, placed, matched, withLibrary, judgeReply}
+use Rattle.judging.specs.Verdicts.{verdict, refusedAs, typeFrom, typeOf, numbered, placedFrom, placed, served, matched, withLibrary, judgeReply}
 
 -- a file's type, line by line
 module _ (l : ℕ) (y : List ℤ) (t : Trace) where
@@ -199,27 +199,27 @@ module _ (library board : List ℕ) (w : Walk) (at n : ℕ) (s : Placing library
   place-over v h e = e ∙ sym (ap (placedFrom library board n) (going-end board w at (s .going) h)) ∙ s .left
 
 -- the kinds of two accepted files
-module _ (library board : List ℕ) (a : FileType) (e : a ≡ typeOf board) (x : Bool) (i : x ≡ isLibrary a) (v : Verdict) where
-  pub first-wrong : x ≡ true → v ≡ verdict 17 0 0 1 → v ≡ matched library board
+module _ (library board : List ℕ) (b : FileType) (f : b ≡ typeOf library) (y : Bool) (j : y ≡ isLibrary b) (v : Verdict) where
+  pub second-wrong : not y ≡ true → v ≡ verdict 17 0 0 2 → v ≡ served library board
+  unfolding served
+  second-wrong g k = rw (ap isLibrary (sym f) ∙ sym j ∙ not-true y g) k
+
+  pub second-right : not y ≡ false → v ≡ placed library board → v ≡ served library board
+  unfolding served
+  second-right g k = rw (ap isLibrary (sym f) ∙ sym j ∙ not-false y g) k
+
+module _ (library board : List ℕ) (a : FileType) (e : a ≡ typeOf board) (v : Verdict) where
+  pub first-board : a ≡ Board → v ≡ served library board → v ≡ matched library board
+  unfolding matched served
+  first-board h k = rw (sym e ∙ h) k
+
+  pub first-panel : a ≡ Panel → v ≡ served library board → v ≡ matched library board
+  unfolding matched served
+  first-panel h k = rw (sym e ∙ h) k
+
+  pub first-wrong : a ≡ Library → v ≡ verdict 17 0 0 1 → v ≡ matched library board
   unfolding matched
-  first-wrong h k = rw (ap isLibrary (sym e) ∙ sym i ∙ h) k
-
-  module _ (h : x ≡ false) (b : FileType) (f : b ≡ typeOf library) (y : Bool) (j : y ≡ isLibrary b) where
-    pub second-wrong : not y ≡ true → v ≡ verdict 17 0 0 2 → v ≡ matched library board
-    unfolding matched
-    second-wrong g k = rw (ap isLibrary (sym e) ∙ sym i ∙ h) (go y (ap isLibrary (sym f) ∙ sym j) g)
-      where
-        go : (z : Bool) → isLibrary (typeOf library) ≡ z → not z ≡ true → v ≡ cond (isLibrary (typeOf library)) (placed library board) (verdict 17 0 0 2)
-        go true l m = absurd (false≢true m)
-        go false l m = rw l k
-
-    pub both-right : not y ≡ false → v ≡ placed library board → v ≡ matched library board
-    unfolding matched
-    both-right g k = rw (ap isLibrary (sym e) ∙ sym i ∙ h) (go y (ap isLibrary (sym f) ∙ sym j) g)
-      where
-        go : (z : Bool) → isLibrary (typeOf library) ≡ z → not z ≡ false → v ≡ cond (isLibrary (typeOf library)) (placed library board) (verdict 17 0 0 2)
-        go true l m = rw l k
-        go false l m = absurd (true≢false m)
+  first-wrong h k = rw (sym e ∙ h) k
 
 -- an accepted file is not too large
 pub checked-small : (file : List ℕ) (r : Reply) → r ≡ checkReply file → r .number ≡ 0 → length file ≤ limit

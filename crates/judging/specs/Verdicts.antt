@@ -50,6 +50,10 @@ placedFrom library board n (row l x t) =
 unfoldable pub placed : List ℕ → List ℕ → Verdict
 placed library board = placedFrom library board 0 (traceOf board)
 
+-- with a board or panel: 17 for the second file, then the placements
+unfoldable pub served : List ℕ → List ℕ → Verdict
+served library board = cond (isLibrary (typeOf library)) (placed library board) (verdict 17 0 0 2)
+
 -- two accepted files: 17 for the first, 17 for the second, then the placements
 unfoldable pub matched : List ℕ → List ℕ → Verdict
 matched library board = cond (isLibrary (typeOf board)) (verdict 17 0 0 1) (cond (isLibrary (typeOf library)) (placed library board) (verdict 17 0 0 2))

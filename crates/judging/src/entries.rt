@@ -1,4 +1,5 @@
 // The entries of a library, and what the placements of a board need of them.
+use crate::stock;
 use crate::texts;
 use lines::WIDTH;
 use loops::same;
@@ -9,6 +10,7 @@ ghost use Prim.Native.Nat.{_≤_};
 ghost use lib.ListN.{length};
 ghost use Rattle.reading.specs.Walks.{limit};
 ghost use Rattle.judging.specs.Entries.{sameEntry, refers, isOf, isEntry, hasEntry, lacksEntry, lacks};
+ghost use Rattle.judging.specs.Stock.{kindFor, Stocked};
 
 // Whether a row of a library has the geometry and part that a placement has as package and part number.
 fn same_entry(library: &[u8], y: [i64; WIDTH], board: &[u8], x: [i64; WIDTH]) -> bool
@@ -72,28 +74,52 @@ fn refers(board: &[u8], x: [i64; WIDTH], word: &[u8]) -> bool
     texts::text_is(board, x[5], x[6], word)
 }
 
+// The kind of an electrical or a mechanical component.
+fn kind_for(mechanical: bool) -> i64
+    ensures { λ r. ⌜ r ≡ kindFor mechanical ⌝ }
+{
+    if mechanical { 151 } else { 141 }
+}
+
+// Whether a library has a placement's entry, of this kind; the slots show most, and the library is looked through for the others.
+fn is_stocked(
+    library: &[u8],
+    places: &[u64],
+    mechanical: bool,
+    board: &[u8],
+    x: [i64; WIDTH],
+) -> bool
+    requires { ⌜ (length (now library) ≤ limit) × Stocked (now library) (now places) ⌝ }
+    ensures { λ r. ⌜ r ≡ hasEntry (now (library .entry)) (kindFor mechanical) (now (board .entry)) x ⌝ }
+{
+    if stock::has_place(library, places, mechanical, board, x) {
+        return true;
+    }
+    has_entry(library, kind_for(mechanical), board, x)
+}
+
 // Whether a placement lacks its entry: BOARD needs none, NOREFDES a mechanical one, all others an electrical one.
-fn lacks_entry(library: &[u8], board: &[u8], x: [i64; WIDTH]) -> bool
-    requires { ⌜ length (now library) ≤ limit ⌝ }
+fn lacks_entry(library: &[u8], places: &[u64], board: &[u8], x: [i64; WIDTH]) -> bool
+    requires { ⌜ (length (now library) ≤ limit) × Stocked (now library) (now places) ⌝ }
     ensures { λ r. ⌜ r ≡ lacksEntry (now (library .entry)) (now (board .entry)) x ⌝ }
 {
     if refers(board, x, b"BOARD") {
         return false;
     }
     if refers(board, x, b"NOREFDES") {
-        return !has_entry(library, 151, board, x);
+        return !is_stocked(library, places, true, board, x);
     }
-    !has_entry(library, 141, board, x)
+    !is_stocked(library, places, false, board, x)
 }
 
 // Whether a line of a board is a placement that lacks its entry.
-pub fn lacks(library: &[u8], board: &[u8], t: Turn) -> bool
-    requires { ⌜ length (now library) ≤ limit ⌝ }
+pub fn lacks(library: &[u8], places: &[u64], board: &[u8], t: Turn) -> bool
+    requires { ⌜ (length (now library) ≤ limit) × Stocked (now library) (now places) ⌝ }
     ensures { λ r. ⌜ r ≡ lacks (now (library .entry)) (now (board .entry)) t ⌝ }
 {
     let row = t.row;
     if is_of(t, 131) {
-        return lacks_entry(library, board, row);
+        return lacks_entry(library, places, board, row);
     }
     false
 }

@@ -1,5 +1,6 @@
 // A board or panel judged against a library: whether each placement has its entry.
 pub mod entries;
+mod stock;
 pub mod texts;
 pub mod whole;
 

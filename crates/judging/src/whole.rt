@@ -1,6 +1,7 @@
 // A whole board or panel, judged against a whole library.
 use crate::Verdict;
 use crate::entries;
+use crate::stock;
 use form::FileType;
 use reading::Reply;
 use reading::Turn;
@@ -12,7 +13,11 @@ ghost use Prim.Native.Nat.{_^_, _≤_, _<_};
 ghost use lib.ListN.{length};
 ghost use Rattle.records.specs.Marks.{isLibrary};
 ghost use Rattle.reading.specs.Walks.{limit};
-ghost use Rattle.judging.specs.Verdicts.{verdict, refusedAs, typeOf, numbered, placed, matched, withLibrary, judgeReply};
+ghost use Rattle.judging.specs.Stock.{Stocked};
+ghost use Rattle.judging.specs.Verdicts.{verdict, refusedAs, typeOf, numbered, placed, served, matched, withLibrary, judgeReply};
+
+// How many slots there are for a library's components, 512 KiB of them.
+const PLACES: usize = 65_536;
 
 // A verdict on no line.
 fn verdict(number: u64, count: u64, which: u64) -> Verdict
@@ -84,8 +89,8 @@ fn numbered(n: u64, t: Turn) -> u64
 }
 
 // The placements of a board: 16 at the first that lacks its entry, or their number.
-fn placed(library: &[u8], board: &[u8]) -> Verdict
-    requires { ⌜ (length (now library) ≤ limit) × (length (now board) ≤ limit) ⌝ }
+fn placed_by(library: &[u8], places: &[u64], board: &[u8]) -> Verdict
+    requires { ⌜ (length (now library) ≤ limit) × (length (now board) ≤ limit) × Stocked (now library) (now places) ⌝ }
     ensures { λ r. ⌜ r ≡ placed (now (library .entry)) (now (board .entry)) ⌝ }
 {
     let mut w = walking::begin();
@@ -98,7 +103,7 @@ fn placed(library: &[u8], board: &[u8]) -> Verdict
             return verdict(0, n, 0);
         }
         n = numbered(n, t);
-        if entries::lacks(library, board, t) {
+        if entries::lacks(library, places, board, t) {
             return verdict(16, n, 1);
         }
         w = t.walk;
@@ -107,18 +112,38 @@ fn placed(library: &[u8], board: &[u8]) -> Verdict
     verdict(0, n, 0)
 }
 
-// Two accepted files: 17 unless the first is a board or panel, and the second a library.
-fn matched(library: &[u8], board: &[u8]) -> Verdict
+// The same with a library that is not in slots yet.
+fn placed(library: &[u8], board: &[u8]) -> Verdict
     requires { ⌜ (length (now library) ≤ limit) × (length (now board) ≤ limit) ⌝ }
-    ensures { λ r. ⌜ r ≡ matched (now (library .entry)) (now (board .entry)) ⌝ }
+    ensures { λ r. ⌜ r ≡ placed (now (library .entry)) (now (board .entry)) ⌝ }
 {
-    if is_library(file_type(board)) {
-        return verdict(17, 0, 1);
-    }
+    let mut places: [u64; PLACES] = [0; PLACES];
+    stock::stock(library, &mut places);
+    placed_by(library, &places, board)
+}
+
+// An accepted board or panel: 17 unless the other file is a library.
+fn served(library: &[u8], board: &[u8]) -> Verdict
+    requires { ⌜ (length (now library) ≤ limit) × (length (now board) ≤ limit) ⌝ }
+    ensures { λ r. ⌜ r ≡ served (now (library .entry)) (now (board .entry)) ⌝ }
+{
     if !is_library(file_type(library)) {
         return verdict(17, 0, 2);
     }
     placed(library, board)
+}
+
+// Two accepted files: 17 unless the first is a board or panel, and the second a library. The two calls of `served` keep the
+// slots out of the frame that calls `check`, which has as many of its own.
+fn matched(library: &[u8], board: &[u8]) -> Verdict
+    requires { ⌜ (length (now library) ≤ limit) × (length (now board) ≤ limit) ⌝ }
+    ensures { λ r. ⌜ r ≡ matched (now (library .entry)) (now (board .entry)) ⌝ }
+{
+    match file_type(board) {
+        FileType::Board => served(library, board),
+        FileType::Panel => served(library, board),
+        FileType::Library => verdict(17, 0, 1),
+    }
 }
 
 // An accepted board, with a library that may be refused.

@@ -44,10 +44,11 @@ use Rattle.form.specs.declared.Words.the-variants.{FileTypes, Units, Owners, Fa
 use Rattle.form.specs.declared.Limit.{Limit}
 use Rattle.form.specs.declared.FieldType.{FieldType}
 use Rattle.form.specs.declared.FieldType.the-variants.{Text as T, Reference as Ref, Date as D, Integer as I, Number as N, Word as W}
-use Rattle.lines.specs.Rows.{width, entryOf, entryBy, entryAt, putOne, putRefused, putEntry, FieldRoom, begun, fillFrom, filled}
+use Rattle.lines.specs.Rows.{width, entryOf, entryBy, entryAt, fillingAt, fillingOf, putOne, putRefused, putEntry, FieldRoom, fillFrom}
 use Rattle.lines.specs.declared.Entry.{Entry}
 use Rattle.lines.specs.declared.Entry.the-variants.{Number, Word, Text, Refused}
 use Rattle.lines.specs.declared.Filling.{Filling}
+use Rattle.lines.specs.declared.Placed.{Placed}
 
 -- the place of a word is below its list's length, which is small
 none-some : {n : ℕ} → none ≡ some n → ⊥
@@ -139,34 +140,34 @@ shaped c t k s h = go (fieldOf (drop k s)) (bounded (drop k s))
         shaped-of t s (k + a) l (k + m) (readField c t (field q (take l (drop a (drop k s))))) (omega (arith, b .within, b .inside)) (omega (arith, b .within)) (wide c t (field q (take l (drop a (drop k s)))))
     go Broken b = tt
 
--- one field more: e is the entry that the line has next
-module _ (c : Context) (t : FieldType) (s : List ℕ) (b : ℕ) (f : Filling) (r : FieldRoom t s b f) (e : Entry) (h : e ≡ entryAt c t (f .at) s) where
+-- one field more in a row w, at its column j: e is the entry that the line has next, from p on
+module _ (c : Context) (t : FieldType) (s : List ℕ) (b : ℕ) (w : List ℤ) (j p : ℕ) (r : FieldRoom t s b (fillingAt w j p)) (e : Entry) (h : e ≡ entryAt c t p s) where
   like : {x : Entry} → e ≡ x → Shaped t s x
-  like {x} k = subst (Shaped t s) (sym h ∙ k) (shaped c t (f .at) s (r .within))
+  like {x} k = subst (Shaped t s) (sym h ∙ k) (shaped c t p s (r .within))
 
   module _ (z : ℤ) (m : ℕ) (k : e ≡ Number z m) where
-    pub number-room : f .column < width
-    number-room = omega (arith, r .columns, like k .0)
+    pub number-room : length w ≡ width → j < length w
+    number-room l = omega (arith, r .columns, like k .0)
 
-    pub number-put : SFits w64 z → (g : Filling) → g ≡ putOne f (back z) m → g ≡ putEntry b f (entryAt c t (f .at) s)
-    number-put i g p = p ∙ rw (toZ-ofZ w64 z i, sym h ∙ k)
+    pub number-put : SFits w64 z → (g : Filling) → g ≡ putOne (fillingAt w j m) (back z) m → g ≡ putEntry b (fillingAt w j p) (entryAt c t p s)
+    number-put i g q = q ∙ rw (toZ-ofZ w64 z i, sym h ∙ k)
 
   module _ (n m : ℕ) (k : e ≡ Word n m) where
     pub word-fits : SFits w64 (pos n)
     word-fits = record { sfits = omega (arith, like k .1) }
 
-    pub word-room : f .column < width
-    word-room = omega (arith, r .columns, like k .0)
+    pub word-room : length w ≡ width → j < length w
+    word-room l = omega (arith, r .columns, like k .0)
 
-    pub word-put : (g : Filling) → g ≡ putOne f (toZ w64 n) m → g ≡ putEntry b f (entryAt c t (f .at) s)
-    word-put g p = p ∙ rw (toZ-pos w64 n (omega (arith, like k .1)), sym h ∙ k)
+    pub word-put : (g : Filling) → g ≡ putOne (fillingAt w j m) (toZ w64 n) m → g ≡ putEntry b (fillingAt w j p) (entryAt c t p s)
+    word-put g q = q ∙ rw (toZ-pos w64 n (omega (arith, like k .1)), sym h ∙ k)
 
   module _ (a l m : ℕ) (k : e ≡ Text a l m) where
     pub text-fits : Fits w64 (b + a)
     text-fits = omega (arith, r .small, like k .1)
 
-    pub text-room : f .column + 1 < width
-    text-room = omega (arith, r .columns, like k .0)
+    pub text-room : length w ≡ width → j + 1 < length w
+    text-room i = omega (arith, r .columns, like k .0)
 
     pub text-start : b + a < 2 ^ 63
     text-start = omega (arith, r .small, like k .1)
@@ -174,11 +175,11 @@ module _ (c : Context) (t : FieldType) (s : List ℕ) (b : ℕ) (f : Filling) (r
     pub text-length : l < 2 ^ 63
     text-length = omega (arith, r .small, like k .1)
 
-    pub text-put : (g : Filling) → g ≡ putOne (putOne f (pos (b + a)) m) (pos l) m → g ≡ putEntry b f (entryAt c t (f .at) s)
-    text-put g p = p ∙ rw (sym h ∙ k)
+    pub text-put : (g : Filling) → g ≡ putOne (putOne (fillingAt w j m) (pos (b + a)) m) (pos l) m → g ≡ putEntry b (fillingAt w j p) (entryAt c t p s)
+    text-put g q = q ∙ rw (sym h ∙ k)
 
-  pub refused-put : (n : ℕ) → e ≡ Refused n → (g : Filling) → g ≡ putRefused f n → g ≡ putEntry b f (entryAt c t (f .at) s)
-  refused-put n k g p = p ∙ rw (sym h ∙ k)
+  pub refused-put : (n : ℕ) → e ≡ Refused n → putRefused (fillingAt w j p) n ≡ putEntry b (fillingAt w j p) (entryAt c t p s)
+  refused-put n k = rw (sym h ∙ k)
 
 -- an entry put in a row: no more columns than its type has, and a place in the line
 record Put (t : FieldType) (s : List ℕ) (f g : Filling) : Type 0 where
@@ -191,32 +192,41 @@ put-like t s b f (Word n m) h w = record { columns = omega (arith, w .0); within
 put-like t s b f (Text a l m) h w = record { columns = omega (arith, w .0); within = w .2 }
 put-like t s b f (Refused n) h w = record { columns = omega arith; within = h }
 
--- the loop over a line's fields: i of its n fields are in the row
-pub record Fills (c : Context) (k : ℕ) (s : List ℕ) (b m n : ℕ) (f : Filling) (i : ℕ) : Type 0 where
+-- the loop over a line's fields, from m on into a row u: i of its n fields are in the row w, the next column is j, and the place p
+pub record Fills (c : Context) (k : ℕ) (s : List ℕ) (b m n : ℕ) (u w : List ℤ) (j p i : ℕ) : Type 0 where
   pub count : n ≡ length (typesOf (c .rules) k)
   pub within : i ≤ n
-  pub place : f .at ≤ length s
+  pub ten : length u ≡ width
+  pub same : length w ≡ length u
+  pub place : p ≤ length s
   pub small : b + length s < 2 ^ 62
-  pub columns : f .column + widths (drop i (typesOf (c .rules) k)) ≤ width
-  pub left : fillFrom c b s (drop i (typesOf (c .rules) k)) f ≡ filled c k b s m
+  pub columns : j + widths (drop i (typesOf (c .rules) k)) ≤ width
+  pub left : fillFrom c b s (drop i (typesOf (c .rules) k)) (fillingAt w j p) ≡ fillFrom c b s (typesOf (c .rules) k) (fillingAt u 1 m)
 
-pub fills-start : (c : Context) (k : ℕ) (s : List ℕ) (b m n : ℕ) (f : Filling) → n ≡ length (typesOf (c .rules) k) → m ≤ length s → b + length s < 2 ^ 62 → f ≡ begun k m → Fills c k s b m n f 0
-unfolding filled
-fills-start c k s b m n f e h l g = record {
+pub fills-start : (c : Context) (k : ℕ) (s : List ℕ) (b m n : ℕ) (u : List ℤ) → n ≡ length (typesOf (c .rules) k) → length u ≡ width → m ≤ length s → b + length s < 2 ^ 62 → Fills c k s b m n u u 1 m 0
+fills-start c k s b m n u e d h l = record {
   count = e;
   within = omega arith;
-  place = rw g h;
+  ten = d;
+  same = refl;
+  place = h;
   small = l;
-  columns = rw g (omega (arith, nine (c .rules) k));
-  left = rw g;
+  columns = omega (arith, nine (c .rules) k);
+  left = refl;
 }
 
-module _ (c : Context) (k : ℕ) (s : List ℕ) (b m n : ℕ) (f : Filling) (i : ℕ) (r : Fills c k s b m n f i) where
-  pub fills-over : n ≤ i → f ≡ filled c k b s m
+module _ (c : Context) (k : ℕ) (s : List ℕ) (b m n : ℕ) (u w : List ℤ) (j p i : ℕ) (r : Fills c k s b m n u w j p i) where
+  pub fills-over : n ≤ i → fillingAt w j p ≡ fillFrom c b s (typesOf (c .rules) k) (fillingAt u 1 m)
   unfolding fillFrom
   fills-over h =
       let l : length (typesOf (c .rules) k) ≤ i = omega (arith, r .count) in
       rw (drop-of-length-le (typesOf (c .rules) k) l) at (r .left)
+
+  pub fills-same : length w ≡ length u
+  fills-same = r .same
+
+  pub fills-ten : length w ≡ width
+  fills-ten = r .same ∙ r .ten
 
   module _ (h : i < n) where
     pub fills-type : i < length (typesOf (c .rules) k)
@@ -230,26 +240,28 @@ module _ (c : Context) (k : ℕ) (s : List ℕ) (b m n : ℕ) (f : Filling) (i :
     wide-here = rw here
 
     module _ (t : FieldType) (e : t ≡ typeAt (typesOf (c .rules) k) i) where
-      pub fills-room : FieldRoom t s b f
+      pub fills-room : FieldRoom t s b (fillingAt w j p)
       fills-room = record { columns = rw e (omega (arith, r .columns, wide-here)); within = r .place; small = r .small }
 
-      module _ (g : Filling) (p : g ≡ putEntry b f (entryAt c t (f .at) s)) where
-        step : fillFrom c b s (drop i (typesOf (c .rules) k)) f ≡ cond (eqb (g .refused) 0) (fillFrom c b s (drop (i + 1) (typesOf (c .rules) k)) g) g
-        unfolding fillFrom
-        step = rw (here, p, e)
+      step : (g : Filling) → g ≡ putEntry b (fillingAt w j p) (entryAt c t p s) → fillFrom c b s (drop i (typesOf (c .rules) k)) (fillingAt w j p) ≡ cond (eqb (g .refused) 0) (fillFrom c b s (drop (i + 1) (typesOf (c .rules) k)) g) g
+      unfolding fillFrom
+      step g d = rw (here, d, e)
 
-        pub fills-refused : (g .refused ≡ 0 → ⊥) → g ≡ filled c k b s m
-        fills-refused q = sym (rw (ne-eqb (g .refused) 0 q) at step) ∙ r .left
+      module _ (v : List ℤ) (q : Placed) (d : fillingOf v q ≡ putEntry b (fillingAt w j p) (entryAt c t p s)) where
+        pub fills-refused : (q .refused ≡ 0 → ⊥) → fillingOf v q ≡ fillFrom c b s (typesOf (c .rules) k) (fillingAt u 1 m)
+        fills-refused o = sym (rw (ne-eqb (q .refused) 0 o) at (step (fillingOf v q) d)) ∙ r .left
 
-        pub fills-more : g .refused ≡ 0 → Fills c k s b m n g (i + 1)
-        fills-more q =
-            let x : Put t s f g = rw p (put-like t s b f (entryAt c t (f .at) s) (r .place) (shaped c t (f .at) s (r .place))) in
-            let w : widthOf t ≡ widthOf (typeAt (typesOf (c .rules) k) i) = ap widthOf e in
+        pub fills-more : length v ≡ length w → q .refused ≡ 0 → Fills c k s b m n u v (q .column) (q .at) (i + 1)
+        fills-more l o =
+            let x : Put t s (fillingAt w j p) (fillingOf v q) = rw d (put-like t s b (fillingAt w j p) (entryAt c t p s) (r .place) (shaped c t p s (r .place))) in
+            let y : widthOf t ≡ widthOf (typeAt (typesOf (c .rules) k) i) = ap widthOf e in
             record {
               count = r .count;
               within = omega arith;
+              ten = r .ten;
+              same = l ∙ r .same;
               place = x .within;
               small = r .small;
-              columns = omega (arith, x .columns, r .columns, wide-here, w);
-              left = sym (rw (eq-eqb (g .refused) 0 q) at step) ∙ r .left;
+              columns = omega (arith, x .columns, r .columns, wide-here, y);
+              left = sym (rw (eq-eqb (q .refused) 0 o, o) at (step (fillingOf v q) d)) ∙ r .left;
             }

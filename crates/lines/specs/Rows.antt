@@ -18,6 +18,7 @@ use Rattle.form.specs.declared.FieldType.{FieldType}
 use Rattle.lines.specs.declared.Entry.{Entry}
 use Rattle.lines.specs.declared.Entry.the-variants.{Number, Word, Text, Refused}
 use Rattle.lines.specs.declared.Filling.{Filling}
+use Rattle.lines.specs.declared.Placed.{Placed}
 
 -- how many numbers a row has
 abbrev pub width : ℕ
@@ -38,6 +39,14 @@ entryBy c t k s Broken = Refused 4
 -- the field at the front of the part of a line from k on
 unfoldable pub entryAt : Context → FieldType → ℕ → List ℕ → Entry
 entryAt c t k s = entryBy c t k (drop k s) (fieldOf (drop k s))
+
+-- a row as it is filled: with the next column and the place in the line, nothing refused
+abbrev pub fillingAt : List ℤ → ℕ → ℕ → Filling
+fillingAt w k m = record { row = w; column = k; at = m; refused = 0 }
+
+-- a row with what is known of it beside its columns
+abbrev pub fillingOf : List ℤ → Placed → Filling
+fillingOf w p = record { row = w; column = p .column; at = p .at; refused = p .refused }
 
 -- one column more
 abbrev pub putOne : Filling → ℤ → ℕ → Filling

@@ -29,3 +29,10 @@ pub struct Filling {
     pub at: usize,
     pub refused: u64,
 }
+
+// What is known of a row beside its columns: the next one, the place in the line, and a refusal's number or 0.
+struct Placed {
+    column: usize,
+    at: usize,
+    refused: u64,
+}

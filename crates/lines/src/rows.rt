@@ -1,6 +1,7 @@
 // The row of a line: its kind, then its fields in their order, a text as its start in the file and its length.
 use crate::Entry;
 use crate::Filling;
+use crate::Placed;
 use fields::FieldReply;
 use form::Context;
 use form::FieldType;
@@ -9,7 +10,8 @@ ghost use mathlib.Core.Path.{_≡_};
 ghost use Prim.Native.Nat.{_+_, _^_, _≤_, _<_};
 ghost use lib.IntN.{pos};
 ghost use lib.ListN.{length};
-ghost use Rattle.lines.specs.Rows.{width, entryAt, putOne, putRefused, putEntry, FieldRoom, begun, filled};
+ghost use Rattle.form.specs.Layouts.{typesOf};
+ghost use Rattle.lines.specs.Rows.{width, entryAt, fillingAt, fillingOf, putOne, putEntry, FieldRoom, fillFrom, filled};
 
 // The next field of a line from a place on, by its type.
 fn next_entry(c: Context, t: FieldType, s: &[u8], at: usize) -> Entry
@@ -37,59 +39,82 @@ fn next_entry(c: Context, t: FieldType, s: &[u8], at: usize) -> Entry
 }
 
 // One column more.
-fn put_one(f: Filling, z: i64, at: usize) -> Filling
-    requires { ⌜ f .column < width ⌝ }
-    ensures { λ r. ⌜ r ≡ putOne f z at ⌝ }
+fn put_one(row: &mut [i64], column: usize, z: i64, at: usize) -> Placed
+    requires { ⌜ column < length (now row) ⌝ }
+    ensures { λ r. ⌜ fillingOf (now (row .exit)) r ≡ putOne (fillingAt (now (row .entry)) column at) z at ⌝ }
 {
-    let mut g = f;
-    let i = g.column;
-    g.row[i] = z;
-    g.column = i + 1;
-    g.at = at;
-    g
-}
-
-// A text's two columns: its start in the file and its length.
-fn put_text(f: Filling, start: usize, len: usize, at: usize) -> Filling
-    requires { ⌜ (f .column + 1 < width) × (start < 2 ^ 63) × (len < 2 ^ 63) ⌝ }
-    ensures { λ r. ⌜ r ≡ putOne (putOne f (pos start) at) (pos len) at ⌝ }
-{
-    let g = put_one(f, start as i64, at);
-    put_one(g, len as i64, at)
-}
-
-// A refusal.
-fn put_refused(f: Filling, n: u64) -> Filling
-    ensures { λ r. ⌜ r ≡ putRefused f n ⌝ }
-{
-    let mut g = f;
-    g.refused = n;
-    g
-}
-
-// The row with one field more, or the field's refusal; the line starts at `base` in the file.
-fn put_field(c: Context, t: FieldType, s: &[u8], base: usize, f: Filling) -> Filling
-    requires { ⌜ FieldRoom t (now s) base f ⌝ }
-    ensures { λ r. ⌜ r ≡ putEntry base f (entryAt c t (f .at) (now (s .entry))) ⌝ }
-{
-    let at = f.at;
-    match next_entry(c, t, s, at) {
-        Entry::Number(z, m) => put_one(f, z, m),
-        Entry::Word(n, m) => put_one(f, n as i64, m),
-        Entry::Text(a, l, m) => put_text(f, base + a, l, m),
-        Entry::Refused(n) => put_refused(f, n),
+    row[column] = z;
+    Placed {
+        column: column + 1,
+        at,
+        refused: 0,
     }
 }
 
-// A row before its first field.
-fn begin(kind: u64, from: usize) -> Filling
-    requires { ⌜ kind < 2 ^ 63 ⌝ }
-    ensures { λ r. ⌜ r ≡ begun kind from ⌝ }
+// A text's two columns: its start in the file and its length.
+fn put_text(row: &mut [i64], column: usize, start: usize, len: usize, at: usize) -> Placed
+    requires { ⌜ (column + 1 < length (now row)) × (start < 2 ^ 63) × (len < 2 ^ 63) ⌝ }
+    ensures { λ r. ⌜ fillingOf (now (row .exit)) r ≡ putOne (putOne (fillingAt (now (row .entry)) column at) (pos start) at) (pos len) at ⌝ }
 {
-    Filling {
-        row: [kind as i64, 0, 0, 0, 0, 0, 0, 0, 0, 0],
-        column: 1,
-        at: from,
+    row[column] = start as i64;
+    row[column + 1] = len as i64;
+    Placed {
+        column: column + 2,
+        at,
+        refused: 0,
+    }
+}
+
+// The row with one field more, or the field's refusal; the line starts at `base` in the file.
+fn put_field(
+    c: Context,
+    t: FieldType,
+    s: &[u8],
+    base: usize,
+    row: &mut [i64],
+    column: usize,
+    at: usize,
+) -> Placed
+    requires { ⌜ (length (now row) ≡ width) × FieldRoom t (now s) base (fillingAt (now row) column at) ⌝ }
+    ensures { λ r. ⌜ fillingOf (now (row .exit)) r ≡ putEntry base (fillingAt (now (row .entry)) column at) (entryAt c t at (now (s .entry))) ⌝ }
+{
+    match next_entry(c, t, s, at) {
+        Entry::Number(z, m) => put_one(row, column, z, m),
+        Entry::Word(n, m) => put_one(row, column, n as i64, m),
+        Entry::Text(a, l, m) => put_text(row, column, base + a, l, m),
+        Entry::Refused(n) => Placed {
+            column,
+            at,
+            refused: n,
+        },
+    }
+}
+
+// The fields of a line of a kind from a place on into a row whose first column is there, up to the first that is refused.
+fn fill_row(c: Context, kind: u64, s: &[u8], base: usize, row: &mut [i64], from: usize) -> Placed
+    requires { ⌜ (length (now row) ≡ width) × (from ≤ length (now s)) × (base + length (now s) < 2 ^ 62) ⌝ }
+    ensures { λ r. ⌜ fillingOf (now (row .exit)) r ≡ fillFrom c base (now (s .entry)) (typesOf (c .rules) kind) (fillingAt (now (row .entry)) 1 from) ⌝ }
+{
+    let v = c.rules;
+    let n = form::layouts::field_count(v, kind);
+    let layout = form::layouts::row_of(v, kind);
+    let mut column = 1;
+    let mut at = from;
+    let mut i = 0;
+    while i < n {
+        let t = form::layouts::type_in(v, kind, layout, i);
+        let p = put_field(c, t, s, base, row, column, at);
+        let k = p.refused;
+        if k != 0 {
+            return p;
+        }
+        column = p.column;
+        at = p.at;
+        i += 1;
+    }
+    Placed {
+        column,
+        at,
         refused: 0,
     }
 }
@@ -99,18 +124,12 @@ pub fn fill(c: Context, kind: u64, s: &[u8], base: usize, from: usize) -> Fillin
     requires { ⌜ (from ≤ length (now s)) × (base + length (now s) < 2 ^ 62) × (kind < 2 ^ 63) ⌝ }
     ensures { λ r. ⌜ r ≡ filled c kind base (now (s .entry)) from ⌝ }
 {
-    let v = c.rules;
-    let n = form::layouts::field_count(v, kind);
-    let mut f = begin(kind, from);
-    let mut i = 0;
-    while i < n {
-        let t = form::layouts::field_type(v, kind, i);
-        f = put_field(c, t, s, base, f);
-        let k = f.refused;
-        if k != 0 {
-            return f;
-        }
-        i += 1;
+    let mut row = [kind as i64, 0, 0, 0, 0, 0, 0, 0, 0, 0];
+    let p = fill_row(c, kind, s, base, &mut row, from);
+    Filling {
+        row,
+        column: p.column,
+        at: p.at,
+        refused: p.refused,
     }
-    f
 }

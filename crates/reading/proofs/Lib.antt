@@ -4,6 +4,7 @@ pub mod EveryLine
 pub mod Sections
 pub mod WalkLaws
 pub mod ReplyLaws
+pub mod MarkLaws
 pub mod NameLaws
 pub mod RowWidths
 pub mod RowLaws

@@ -59,7 +59,7 @@ module _ (file : List ℕ) (p a : ℕ) (e : a ≡ min p (length file)) where
     pub end-within : a + n ≤ length file
     end-within = let k : n ≤ length file - a = rw f (min-le-right q (length file - a)) in omega (arith, start-within)
 
-    part-is : take n (drop a file) ≡ take q (drop p file)
+    pub part-is : take n (drop a file) ≡ take q (drop p file)
     part-is =
         let y : length file - a ≡ length (drop a file) = sym (length-drop a file) in
         ap (λ (k : ℕ). take k (drop a file)) (f ∙ ap (min q) y) ∙ take-least q (drop a file)
@@ -113,7 +113,7 @@ module _ (x a : Bool) (e : x ≡ a) (b : Bool) where
 
 -- a line that names the same component, on the way to line n
 module _ (file : List ℕ) (n l : ℕ) (x row : List ℤ) (t : Trace) where
-  used-on : (f : Found) → stopsBy f ≡ false → ltb l n ≡ true → (isRow f && (leadsComponent row && sameNames file row x)) ≡ false
+  pub used-on : (f : Found) → stopsBy f ≡ false → ltb l n ≡ true → (isRow f && (leadsComponent row && sameNames file row x)) ≡ false
       → usedIn file n x (traceBy f l row t) ≡ usedIn file n x t
   unfolding usedIn
   used-on Row h k g = rw (k, g)
@@ -126,7 +126,7 @@ module _ (file : List ℕ) (n l : ℕ) (x row : List ℤ) (t : Trace) where
   used-here Nothing k g = absurd (false≢true g)
   used-here (Refused m) k g = absurd (false≢true g)
 
-  used-late : (f : Found) → ltb l n ≡ false → usedIn file n x (traceBy f l row t) ≡ false
+  pub used-late : (f : Found) → ltb l n ≡ false → usedIn file n x (traceBy f l row t) ≡ false
   unfolding usedIn
   used-late Row k = rw k
   used-late Nothing k = rw k
@@ -214,9 +214,6 @@ pub ask-start : (file : List ℕ) (w : Walk) → length file ≤ limit → w ≡
 ask-start file w h e = record { going = going-start file w h e; left = rw e }
 
 module _ (file : List ℕ) (w : Walk) (at : ℕ) (s : Asking file w at) where
-  pub ask-steady : Steady file w
-  ask-steady = s .going .steady
-
   module _ (h : at < length file) (t : Turn) (e : t ≡ turnOf file w) (y : Bool) (i : y ≡ stopsBy (t .found)) where
     asked : repeatIn file (traceBy (t .found) (w .line) (t .row) (traceAt file (t .walk))) ≡ repeatOf file
     asked = sym (ap (repeatIn file) (going-trace file w at (s .going) h t e)) ∙ s .left
@@ -235,9 +232,6 @@ module _ (file : List ℕ) (w : Walk) (at : ℕ) (s : Asking file w at) where
         going = going-more file w at (s .going) h t e;
         left = sym (repeat-on file (w .line) (t .row) (traceAt file (t .walk)) (t .found) (sym i ∙ j) (sym d ∙ q)) ∙ asked;
       }
-
-  pub ask-less : (t : Turn) → at < length file → t ≡ turnOf file w → length file - t .walk .at < length file - at
-  ask-less t h e = going-less file w at (s .going) h t e
 
   pub ask-over : length file ≤ at → 0 ≡ repeatOf file
   unfolding repeatIn

@@ -4,7 +4,7 @@ use mathlib.Core.Path.{_≡_, refl, sym, ap, _∙_}
 use mathlib.Core.List.{List}
 use mathlib.Core.Bool.{Bool, true, false, true≢false, false≢true}
 use native.Mathlib.Omega.{arith}
-use borrow.Author.Tests.{lt-ltb, le-ltb, eq-eqb, ne-eqb}
+use borrow.Author.Tests.{lt-ltb}
 use lib.IntN.{ℤ}
 use lib.ListN.{length}
 use Rattle.records.specs.Automaton.{accepting}
@@ -15,7 +15,6 @@ use Rattle.reading.specs.declared.Walk.{Walk}
 use Rattle.reading.specs.declared.Turn.{Turn}
 use Rattle.reading.specs.Walks.{limit, begun, turnOf, stopsBy, Steady, Trace, traceBy, traceAt}
 use Rattle.reading.specs.Replies.{reply, countedBy, endedBy, surveyed, survey, checkReply}
-use Rattle.reading.specs.Names.{repeatOf}
 use Rattle.reading.proofs.WalkLaws.{Going, going-start, going-trace, going-past, going-less, going-more, going-end}
 
 module _ (r : Reply) (l : ℕ) (f : Found) where
@@ -107,12 +106,3 @@ module _ (file : List ℕ) (r : Reply) where
   pub check-large : limit < length file → r ≡ reply 1 0 0 → r ≡ checkReply file
   unfolding checkReply
   check-large h e = rw (lt-ltb limit (length file) h) e
-
-  module _ (h : length file ≤ limit) (l : ℕ) (i : l ≡ repeatOf file) where
-    pub check-again : (l ≡ 0 → ⊥) → r ≡ reply 12 l 0 → r ≡ checkReply file
-    unfolding checkReply
-    check-again k e = rw (le-ltb limit (length file) h, sym i, ne-eqb l 0 k) e
-
-    pub check-rest : l ≡ 0 → r ≡ survey file → r ≡ checkReply file
-    unfolding checkReply
-    check-rest k e = rw (le-ltb limit (length file) h, sym i, eq-eqb l 0 k) e

@@ -2,3 +2,4 @@ pub mod Judging
 pub mod Walks
 pub mod Names
 pub mod Replies
+pub mod Marks

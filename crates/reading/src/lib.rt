@@ -10,6 +10,9 @@ use records::State;
 // The largest file, in bytes.
 pub const LIMIT: usize = 16_777_216;
 
+// How many marks of names a walk has at hand, 512 KiB of them.
+pub const MARKS: usize = 131_072;
+
 // What every operation answers: a refusal's number or 0, its line, and a count.
 pub struct Reply {
     pub number: u64,

@@ -7,8 +7,10 @@ ghost use mathlib.Core.Path.{_≡_};
 ghost use Prim.Native.Nat.{_+_, _≤_, min};
 ghost use lib.ListN.{length, take, drop};
 ghost use Rattle.form.specs.Compare.{sameBytes};
+ghost use Rattle.slots.specs.Hashes.{hashed};
 ghost use Rattle.reading.specs.Walks.{limit};
-ghost use Rattle.reading.specs.Names.{sameText, sameNames, leadsComponent, isNamed, namesSame, isUsed, repeatsAt, repeatOf};
+ghost use Rattle.reading.specs.Names.{textAt, sameText, sameNames, leadsComponent, isNamed, namesSame, isUsed, repeatsAt};
+ghost use Rattle.reading.specs.Marks.{keyOf, markedBy, Telling};
 
 // The smaller of two numbers.
 fn least(a: usize, b: usize) -> usize
@@ -102,37 +104,34 @@ fn is_used(file: &[u8], n: u64, x: [i64; WIDTH]) -> bool
     false
 }
 
-// Whether line n names a component as a line before it did.
-fn repeats(file: &[u8], n: u64, t: Turn) -> bool
-    requires { ⌜ length (now file) ≤ limit ⌝ }
+// The hash of a text behind what gave h; what lies past the file's end is left off.
+fn hash_text(file: &[u8], h: u64, start: i64, len: i64) -> u64
+    ensures { λ r. ⌜ r ≡ hashed h (textAt (now (file .entry)) start len) ⌝ }
+{
+    let a = least(measure::magnitude(start) as usize, file.len());
+    let n = least(measure::magnitude(len) as usize, file.len() - a);
+    slots::hash(h, &file[a..a + n])
+}
+
+// The hash of a row's geometry and part.
+pub fn key(file: &[u8], x: [i64; WIDTH]) -> u64
+    ensures { λ r. ⌜ r ≡ keyOf (now (file .entry)) x ⌝ }
+{
+    hash_text(file, hash_text(file, 0, x[1], x[2]), x[3], x[4])
+}
+
+// Whether line n names a component as a line before it did; a name without a mark came on none, and gets its mark here.
+pub(crate) fn repeats(file: &[u8], n: u64, t: Turn, marks: &mut [u32]) -> bool
+    requires { ⌜ (length (now file) ≤ limit) × Telling (now file) n (now marks) ⌝ }
     ensures { λ r. ⌜ r ≡ repeatsAt (now (file .entry)) n t ⌝ }
+    ensures { λ _. ⌜ now (marks .exit) ≡ markedBy (now (file .entry)) (now (marks .entry)) t ⌝ }
 {
     let row = t.row;
-    if names_component(t) {
+    if !names_component(t) {
+        return false;
+    }
+    if slots::mark(marks, key(file, row)) {
         return is_used(file, n, row);
     }
     false
-}
-
-// The first line before any other fault that names a component as one before it did, or 0.
-pub fn first_repeat(file: &[u8]) -> u64
-    requires { ⌜ length (now file) ≤ limit ⌝ }
-    ensures { λ r. ⌜ r ≡ repeatOf (now (file .entry)) ⌝ }
-{
-    let mut w = walking::begin();
-    let mut at = 0;
-    while at < file.len() {
-        let l = w.line;
-        let t = walking::turn(file, w);
-        let found = t.found;
-        if walking::stops(found) {
-            return 0;
-        }
-        if repeats(file, l, t) {
-            return l;
-        }
-        w = t.walk;
-        at = w.at;
-    }
-    0
 }

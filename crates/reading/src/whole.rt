@@ -1,6 +1,7 @@
 // A whole file, checked or read into lent rows.
 use crate::Found;
 use crate::LIMIT;
+use crate::MARKS;
 use crate::Reply;
 use crate::Walk;
 use crate::names;
@@ -12,7 +13,9 @@ ghost use mathlib.Core.Path.{_≡_};
 ghost use Prim.Native.Nat.{_^_, _≤_, _<_};
 ghost use lib.ListN.{length};
 ghost use Rattle.reading.specs.Walks.{limit};
-ghost use Rattle.reading.specs.Replies.{reply, countedBy, endedBy, survey, checkReply, readReply, readRows};
+ghost use Rattle.reading.specs.Replies.{reply, countedBy, endedBy, checkReply, readReply, readRows};
+ghost use Rattle.reading.specs.Marks.{sizedReply};
+ghost use Rattle.slots.specs.Looks.{looks};
 
 // A refusal without a count.
 fn refusal(number: u64, line: u64) -> Reply
@@ -52,10 +55,10 @@ fn ended(r: Reply, w: Walk) -> Reply
     refusal(13, w.line)
 }
 
-// A file by all rules but size and names used twice.
-fn survey(file: &[u8]) -> Reply
-    requires { ⌜ length (now file) ≤ limit ⌝ }
-    ensures { λ r. ⌜ r ≡ survey (now (file .entry)) ⌝ }
+// A file by all rules but size; `marks` are those of the names that came.
+fn walked(file: &[u8], marks: &mut [u32]) -> Reply
+    requires { ⌜ (length (now file) ≤ limit) × (looks < length (now marks)) ⌝ }
+    ensures { λ r. ⌜ r ≡ sizedReply (now (file .entry)) ⌝ }
 {
     let mut w = walking::begin();
     let mut at = 0;
@@ -67,6 +70,9 @@ fn survey(file: &[u8]) -> Reply
         r = counted(r, l, found);
         if walking::stops(found) {
             return r;
+        }
+        if names::repeats(file, l, t, marks) {
+            return refusal(12, l);
         }
         w = t.walk;
         at = w.at;
@@ -81,11 +87,8 @@ pub fn check(file: &[u8]) -> Reply
     if LIMIT < file.len() {
         return refusal(1, 0);
     }
-    let l = names::first_repeat(file);
-    if l != 0 {
-        return refusal(12, l);
-    }
-    survey(file)
+    let mut marks: [u32; MARKS] = [0; MARKS];
+    walked(file, &mut marks)
 }
 
 // A file's rows from the front of the slice on, where they fit; the slice stays as it is on every refusal.

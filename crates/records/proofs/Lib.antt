@@ -1,4 +1,5 @@
 pub mod StateLaws
+pub mod RoleLaws
 pub mod PlaceLaws
 pub mod Steps
 pub mod Tables

@@ -1,25 +1,21 @@
--- Laws of stages, phases and roles as the code reads them.
-use Prim.Native.Nat.{ℕ, zero, suc, _-_, _/_, _%_, _≤_, _<_}
+-- Laws of stages and phases as the code reads them.
+use Prim.Native.Nat.{ℕ, zero, suc, _≤_}
 use mathlib.Core.Path.{_≡_, refl, sym, _∙_}
 use mathlib.Core.List.{List, [], _∷_}
 use mathlib.Core.Option.{Option, none, some}
 use mathlib.Core.Bool.{Bool, true, false, not, _&&_, _||_, false≢true}
 use native.Mathlib.Omega.{arith}
-use mir.Syntax.{w64}
-use mir.Val.{Fits}
-use borrow.Author.Tests.{ne-eqb, eqb-true, leb-true, leb-false, lt-leb}
+use borrow.Author.Tests.{ne-eqb, leb-true, leb-false}
 use lib.Dec.{leb, eqb}
-use lib.ListN.{length, getD}
-use Rattle.text.proofs.Lists.{and-left, and-right}
+use lib.ListN.{length}
 use Rattle.text.proofs.Tables.{allBelow, below-all}
 use Rattle.form.specs.Sections.{outline, sections, nth}
-use Rattle.form.specs.Kinds.{sectionOf, lineOf, roleOf}
+use Rattle.form.specs.Kinds.{sectionOf, roleOf}
 use Rattle.form.specs.declared.Rules.{Rules}
 use Rattle.form.specs.declared.Rules.the-variants.{Idf3}
 use Rattle.form.specs.declared.FileType.{FileType}
 use Rattle.records.specs.Marks.{shapeOf, isMiddle, manyLoops}
 use Rattle.loops.specs.Loops.{loopAfter, complete}
-use Rattle.records.specs.Roles.{roleTable}
 use Rattle.loops.specs.Answers.{looped}
 use Rattle.records.specs.Stages.{mayOpen, afterHeaded, after}
 use Rattle.records.specs.Automaton.{startOf, roleNumber, afterTitle, afterPoint, onOrOut, standsBy, mayStand, amongPoints, movedBy, moved, stepped, typeAt}
@@ -38,36 +34,6 @@ use Rattle.records.specs.declared.Reason.the-variants.{Misplaced, BadLoo
 use Rattle.records.specs.declared.Outcome.{Outcome}
 use Rattle.records.specs.declared.Outcome.the-variants.{Next, Refused}
 
--- Roles
-
-abbrev roleByte : ℕ → ℕ
-roleByte k = getD (getD roleTable (k / 10) []) (k % 10) 0
-
-abbrev role-right : Rules → ℕ → Bool
-role-right v k = leb 48 (roleByte k) && (leb (roleByte k) 58 && eqb (roleByte k - 48) (roleNumber (roleOf v k)))
-
-table-right : (v : Rules) → allBelow 160 (role-right v) ≡ true
-unfolding roleTable roleOf sectionOf lineOf sections
-table-right Idf3 = refl
-
-role-at : (v : Rules) (k : ℕ) → k ≤ 159 → role-right v k ≡ true
-role-at v k h = below-all 160 (role-right v) (table-right v) k (omega arith)
-
-pub role-low : (v : Rules) (k : ℕ) → k ≤ 159 → 48 ≤ roleByte k
-role-low v k h = leb-true 48 (roleByte k) (and-left (leb 48 (roleByte k)) _ (role-at v k h))
-
-pub role-fits : (v : Rules) (k : ℕ) → k ≤ 159 → Fits w64 (roleByte k - 48)
-role-fits v k h =
-    let l : roleByte k ≤ 58 = leb-true (roleByte k) 58 (and-left (leb (roleByte k) 58) _ (and-right (leb 48 (roleByte k)) _ (role-at v k h))) in
-    record { fits = omega (arith, l) }
-
-pub role-is : (v : Rules) (k : ℕ) → k ≤ 159 → roleByte k - 48 ≡ roleNumber (roleOf v k)
-role-is v k h = eqb-true (roleByte k - 48) (roleNumber (roleOf v k)) (and-right (leb (roleByte k) 58) _ (and-right (leb 48 (roleByte k)) _ (role-at v k h)))
-
-pub role-none : (v : Rules) (k : ℕ) → 159 < k → 10 ≡ roleNumber (roleOf v k)
-unfolding roleOf sectionOf
-role-none Idf3 k h = rw (lt-leb k 159 h)
-
 -- Sections
 
 pub middle-is : (v : Rules) (s : ℕ) → (leb 4 s && leb s 12) ≡ isMiddle v s
@@ -79,7 +45,7 @@ nth-none [] n h = refl
 nth-none (x ∷ l) zero h = absurd (omega arith)
 nth-none (x ∷ l) (suc n) h = nth-none l n (omega arith)
 
-abbrev begins-lead : Phase → Bool
+abbrev pub begins-lead : Phase → Bool
 begins-lead AwaitTitle = false
 begins-lead (AwaitName t) = false
 begins-lead (HeaderFull t) = false

@@ -2,4 +2,3 @@ pub mod Marks
 pub mod Stages
 pub mod Places
 pub mod Automaton
-pub mod Roles

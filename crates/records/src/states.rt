@@ -13,7 +13,7 @@ use loops::LoopState;
 use loops::Point;
 ghost use mathlib.Core.Path.{_≡_};
 ghost use Prim.Native.Nat.{_≤_};
-ghost use Rattle.form.specs.Kinds.{roleOf};
+ghost use Rattle.form.specs.Kinds.{dataRole, roleOf};
 ghost use Rattle.records.specs.Marks.{shapeOf, manyLoops};
 ghost use Rattle.loops.specs.Loops.{loopAfter};
 ghost use Rattle.records.specs.Stages.{after};
@@ -21,37 +21,57 @@ ghost use Rattle.records.specs.Places.{pointLine, hasProps, lineAt, sect
 ghost use Rattle.records.specs.Automaton.{refusalNumber, accepting, afterTitle, startOf, roleNumber, standsBy, mayStand, afterPoint, onOrOut, amongPoints, movedBy, moved, stepped, typeAt};
 ghost use Rattle.records.specs.Places.{lineNumber};
 
-// What a line is for in its section: 0 opens it, 1 title, 2 name, 3 lead, 4 point, 5 PROP, 6 entry, 7 part, 8 position, 9 closes it; : none.
-const ROLES: [[u8; 10]; 16] = [
-    *b"::::::::::",
-    *b"012::::::9", // 1 HEADER
-    *b"034::::::9", // 2 BOARD_OUTLINE
-    *b"034::::::9", // 3 PANEL_OUTLINE
-    *b"034::::::9", // 4 OTHER_OUTLINE
-    *b"034::::::9", // 5 ROUTE_OUTLINE
-    *b"034::::::9", // 6 PLACE_OUTLINE
-    *b"034::::::9", // 7 ROUTE_KEEPOUT
-    *b"04:::::::9", // 8 VIA_KEEPOUT
-    *b"034::::::9", // 9 PLACE_KEEPOUT
-    *b"034::::::9", // 10 PLACE_REGION
-    *b"06:::::::9", // 11 DRILLED_HOLES
-    *b"06:::::::9", // 12 NOTES
-    *b"078::::::9", // 13 PLACEMENT
-    *b"0345:::::9", // 14 ELECTRICAL
-    *b"034::::::9", // 15 MECHANICAL
-];
+// What the first data line of a section is for: 1 title, 3 lead, 4 point, 6 entry, 7 part.
+fn first_role(v: Rules, s: u64) -> u64
+    ensures { λ r. ⌜ r ≡ roleNumber (dataRole (shapeOf v s) 1) ⌝ }
+{
+    match s {
+        1 => 1, // HEADER
+        8 => 4, // VIA_KEEPOUT
+        11 => 6, // DRILLED_HOLES
+        12 => 6, // NOTES
+        13 => 7, // PLACEMENT
+        _ => 3,
+    }
+}
 
-// The number of what a line of a kind is for, 10 where no section has it.
+// What the second data line of a section is for: 2 name, 4 point, 8 position; 10 none.
+fn second_role(v: Rules, s: u64) -> u64
+    ensures { λ r. ⌜ r ≡ roleNumber (dataRole (shapeOf v s) 2) ⌝ }
+{
+    match s {
+        1 => 2, // HEADER
+        8 => 10, // VIA_KEEPOUT
+        11 => 10, // DRILLED_HOLES
+        12 => 10, // NOTES
+        13 => 8, // PLACEMENT
+        _ => 4,
+    }
+}
+
+// What the third data line of a section is for: 5 PROP; 10 none.
+fn third_role(v: Rules, s: u64) -> u64
+    ensures { λ r. ⌜ r ≡ roleNumber (dataRole (shapeOf v s) 3) ⌝ }
+{
+    if has_props(v, s) { 5 } else { 10 }
+}
+
+// The number of what a line of a kind is for: 0 opens its section, 9 closes it; 10 where no section has it.
 pub fn role_of(v: Rules, kind: u64) -> u64
     ensures { λ r. ⌜ r ≡ roleNumber (roleOf v kind) ⌝ }
 {
-    if 159 < kind {
+    if (kind < 10) | (159 < kind) {
         return 10;
     }
-    let s = (kind / 10) as usize;
-    let n = (kind % 10) as usize;
-    let row = ROLES[s];
-    (row[n] - 48) as u64
+    let s = kind / 10;
+    match kind % 10 {
+        0 => 0,
+        1 => first_role(v, s),
+        2 => second_role(v, s),
+        3 => third_role(v, s),
+        9 => 9,
+        _ => 10,
+    }
 }
 
 // Whether a file may end in a state.

@@ -7,5 +7,6 @@ pub mod FieldLaws
 pub mod Bounds
 pub mod Walk
 pub mod Counting
+pub mod StartLaws
 pub mod LineSpelling
 pub mod FieldSpelling

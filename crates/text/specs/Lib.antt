@@ -5,3 +5,4 @@ pub mod FirstField
 pub mod Fields
 pub mod LineRules
 pub mod FieldRules
+pub mod Starts

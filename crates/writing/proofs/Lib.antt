@@ -1,5 +1,6 @@
 pub mod RowLaws
 pub mod NameLaws
+pub mod MarkLaws
 pub mod Anywhere
 pub mod TextLaws
 pub mod WholeLaws

@@ -2,12 +2,12 @@
 use Prim.Native.Nat.{ℕ, _+_, _/_, _≤_, _<_}
 use mathlib.Core.Path.{_≡_, refl, sym, _∙_}
 use mathlib.Core.List.{List}
-use mathlib.Core.Bool.{Bool, true, false, _&&_, _||_}
+use mathlib.Core.Bool.{Bool, true, false, _||_}
 use lib.IntN.{ℤ}
 use lib.ListN.{length, drop}
 use Rattle.reading.specs.Names.{leadsComponent, sameNames}
 use Rattle.writing.specs.WholeRows.{wholeRows, rowIn}
-use Rattle.writing.specs.Writable.{namesIt, namedIn, twice}
+use Rattle.writing.specs.Writable.{namesIt, namedIn}
 use Rattle.writing.proofs.RowLaws.{row-here, row-none}
 
 module _ (bytes : List ℕ) (x y : List ℤ) (a : Bool) (e : a ≡ leadsComponent y) where
@@ -41,33 +41,3 @@ module _ (rows : List ℤ) (bytes : List ℕ) (from : ℕ) (x : List ℤ) (i : �
 
     pub seek-more : b ≡ false → Seeking rows bytes from x (i + 1)
     seek-more k = record { left = sym (rw k at seek-here) ∙ r .left }
-
--- a row and those behind it
-module _ (rows : List ℤ) (bytes : List ℕ) (from : ℕ) (x : List ℤ) (a : Bool) (e : a ≡ leadsComponent x) where
-  pub again-not : a ≡ false → false ≡ (leadsComponent x && namedIn bytes x (drop from (wholeRows rows)))
-  again-not h = rw (sym e ∙ h)
-
-  pub again-by : (b : Bool) → a ≡ true → b ≡ namedIn bytes x (drop from (wholeRows rows)) → b ≡ (leadsComponent x && namedIn bytes x (drop from (wholeRows rows)))
-  again-by b h i = rw (sym e ∙ h) i
-
-pub record Pairing (rows : List ℤ) (bytes : List ℕ) (i : ℕ) : Type 0 where
-  pub left : twice bytes (drop i (wholeRows rows)) ≡ twice bytes (wholeRows rows)
-
-pub pair-start : (rows : List ℤ) (bytes : List ℕ) → Pairing rows bytes 0
-pair-start rows bytes = record { left = refl }
-
-module _ (rows : List ℤ) (bytes : List ℕ) (i : ℕ) (r : Pairing rows bytes i) where
-  pub pair-over : length rows / 10 ≤ i → false ≡ twice bytes (wholeRows rows)
-  unfolding twice
-  pair-over h = rw (row-none rows i h) at (r .left)
-
-  module _ (h : i < length rows / 10) (row : List ℤ) (a : row ≡ rowIn rows i) (b : Bool) (e : b ≡ (leadsComponent row && namedIn bytes row (drop (i + 1) (wholeRows rows)))) where
-    pair-here : twice bytes (drop i (wholeRows rows)) ≡ (b || twice bytes (drop (i + 1) (wholeRows rows)))
-    unfolding twice
-    pair-here = rw (row-here rows i h, e, a)
-
-    pub pair-found : b ≡ true → true ≡ twice bytes (wholeRows rows)
-    pair-found k = sym (rw k at pair-here) ∙ r .left
-
-    pub pair-more : b ≡ false → Pairing rows bytes (i + 1)
-    pair-more k = record { left = sym (rw k at pair-here) ∙ r .left }

@@ -1,3 +1,4 @@
 pub mod WholeRows
 pub mod Writable
 pub mod Outcomes
+pub mod Marks

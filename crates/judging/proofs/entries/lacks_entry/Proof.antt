@@ -21,14 +21,14 @@ slice-aggregate-refers-2 c = search laws
 refers-requires-2 : tie.Need-refers-requires-2
 refers-requires-2 c κs = search laws
 
-has-entry-requires : tie.Need-has-entry-requires
-has-entry-requires c κs = search laws
+is-stocked-requires : tie.Need-is-stocked-requires
+is-stocked-requires c κs = search laws
 
 returns-2 : tie.Need-returns-2
 returns-2 c = search laws
 
-has-entry-requires-2 : tie.Need-has-entry-requires-2
-has-entry-requires-2 c κs = search laws
+is-stocked-requires-2 : tie.Need-is-stocked-requires-2
+is-stocked-requires-2 c κs = search laws
 
 returns-3 : tie.Need-returns-3
 returns-3 c = search laws
@@ -36,4 +36,4 @@ returns-3 c = search laws
 pub lacks-entry-spec : {M : Type 1} → statement M
 lacks-entry-spec =
     tie.close
-    (tie.spec slice-aggregate-refers refers-requires returns slice-aggregate-refers-2 refers-requires-2 has-entry-requires returns-2 has-entry-requires-2 returns-3)
+    (tie.spec slice-aggregate-refers refers-requires returns slice-aggregate-refers-2 refers-requires-2 is-stocked-requires returns-2 is-stocked-requires-2 returns-3)

@@ -36,14 +36,20 @@ put-text-requires c κs = search laws
 enum-known-n-2 : tie.Need-enum-known-n-2
 enum-known-n-2 c = search laws
 
-put-refused-requires : tie.Need-put-refused-requires
-put-refused-requires c κs = search laws
+same-length : tie.Need-same-length
+same-length c = search laws
 
 returns : tie.Need-returns
 returns c = search laws
 
+same-length-2 : tie.Need-same-length-2
+same-length-2 c = search laws
+
 returns-2 : tie.Need-returns-2
 returns-2 c = search laws
+
+same-length-3 : tie.Need-same-length-3
+same-length-3 c = search laws
 
 returns-3 : tie.Need-returns-3
 returns-3 c = search laws
@@ -54,4 +60,4 @@ returns-4 c = search laws
 pub put-field-spec : {M : Type 1} → statement M
 put-field-spec =
     tie.close
-    (tie.spec next-entry-requires enum-known-z put-one-requires enum-known-n cast-put-one put-one-requires-2 enum-known-a add-put-text put-text-requires enum-known-n-2 put-refused-requires returns returns-2 returns-3 returns-4)
+    (tie.spec next-entry-requires enum-known-z put-one-requires enum-known-n cast-put-one put-one-requires-2 enum-known-a add-put-text put-text-requires enum-known-n-2 same-length returns same-length-2 returns-2 same-length-3 returns-3 returns-4)

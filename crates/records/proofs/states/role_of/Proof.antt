@@ -1,38 +1,42 @@
 -- `records::states::role_of` meets its contract. Assumes nothing.
 use borrow.Author.Needs.{needs}
-use Rattle.records.specs.Roles.{roleTable}
-use Rattle.records.proofs.StateLaws.{role-low, role-fits, role-is, role-none}
+use Rattle.records.proofs.RoleLaws.{role-none, role-opens, role-first, role-second, role-third, role-closes, role-other}
 use Rattle.records.proofs.states.role_of.Statement.{statement}
 use Rattle.records.proofs.states.role_of.Tie as tie
 
-ruleset laws = (role-low, role-fits, role-is, role-none, needs)
+ruleset laws = (role-none, role-opens, role-first, role-second, role-third, role-closes, role-other, needs)
 
 returns : tie.Need-returns
-unfolding roleTable
 returns c = search laws
 
-mul-row : tie.Need-mul-row
-mul-row c = search laws
+first-role-requires : tie.Need-first-role-requires
+first-role-requires c κs = search laws
 
-array-copy-out-row : tie.Need-array-copy-out-row
-array-copy-out-row c = search laws
+second-role-requires : tie.Need-second-role-requires
+second-role-requires c κs = search laws
 
-array-read-result : tie.Need-array-read-result
-array-read-result c = search laws
-
-sub-result : tie.Need-sub-result
-unfolding roleTable
-sub-result c = search laws
-
-cast-result : tie.Need-cast-result
-unfolding roleTable
-cast-result c = search laws
+third-role-requires : tie.Need-third-role-requires
+third-role-requires c κs = search laws
 
 returns-2 : tie.Need-returns-2
-unfolding roleTable
 returns-2 c = search laws
+
+returns-3 : tie.Need-returns-3
+returns-3 c = search laws
+
+returns-4 : tie.Need-returns-4
+returns-4 c = search laws
+
+returns-5 : tie.Need-returns-5
+returns-5 c = search laws
+
+returns-6 : tie.Need-returns-6
+returns-6 c = search laws
+
+returns-7 : tie.Need-returns-7
+returns-7 c = search laws
 
 pub role-of-spec : {M : Type 1} → statement M
 role-of-spec =
     tie.close
-    (tie.spec returns mul-row array-copy-out-row array-read-result sub-result cast-result returns-2)
+    (tie.spec returns first-role-requires second-role-requires third-role-requires returns-2 returns-3 returns-4 returns-5 returns-6 returns-7)

@@ -1,0 +1,190 @@
+-- What the slots hold, the library has.
+use Prim.Native.Nat.{ℕ, zero, suc, _+_, _*_, _-_, _/_, _%_, _≤_, _<_}
+use mathlib.Core.Path.{_≡_, refl, sym, ap, subst, _∙_}
+use mathlib.Core.List.{List, [], _∷_}
+use mathlib.Core.Bool.{Bool, true, false, cond, _&&_, _||_, false≢true}
+use native.Mathlib.Omega.{arith}
+use borrow.Author.Tests.{ltb-true, ltb-false}
+use lib.Dec.{ltb, eqb}
+use lib.IntN.{ℤ, pos, natAbs}
+use lib.ListN.{length, getD, replicate, length-replicate, getD-replicate}
+use Rattle.text.proofs.Lists.{and-left, and-right}
+use Rattle.loops.specs.Loops.{eqZ}
+use Rattle.slots.specs.Looks.{looks}
+use Rattle.slots.specs.Slots as slot
+use Rattle.slots.specs.Slots.{holds}
+use Rattle.slots.proofs.SlotLaws.{placed-length, placed-all, held-sound}
+use Rattle.reading.specs.Judging.{columnAt}
+use Rattle.reading.specs.Walks.{Trace, done, stop, skip, row, traceOf}
+use Rattle.reading.specs.Marks.{keyOf}
+use Rattle.judging.specs.Entries.{textIs, sameIn, sameEntry, entryIn, hasEntry}
+use Rattle.judging.specs.Stock.{kindFor, codeFor, packOf, packedRow, isNamed, holdsName, stockedRow, stockIn, stockOf, Stocked}
+
+-- an empty slot holds no name
+empty-none : (library : List ℕ) (k : Bool) (board : List ℕ) (x : List ℤ) → holdsName library k board x 0 ≡ false
+unfolding holdsName
+empty-none library true board x = refl
+empty-none library false board x = refl
+
+abbrev namesOf : List ℕ → ℕ → ℕ → ℕ → ℕ → List ℕ → List ℤ → Bool
+namesOf library a l b m board x = sameIn library (pos a) (pos l) board (columnAt x 1) (columnAt x 2) && sameIn library (pos b) (pos m) board (columnAt x 3) (columnAt x 4)
+
+-- a number tells what was put into it
+module _ (library : List ℕ) (a l b m : ℕ) (board : List ℕ) (x : List ℤ) (h1 : a ≤ 16_777_216) (h2 : l ≤ 255) (h3 : m ≤ 255) (h4 : a + l ≤ b) (h5 : b - (a + l) ≤ 255) (c : ℕ) (hc : c ≤ 2) where
+  abbrev number : ℕ
+  number = (((a * 256 + l) * 256 + (b - (a + l))) * 256 + m) * 4 + c
+
+  code-out : number % 4 ≡ c
+  code-out = omega arith
+
+  names-out : isNamed library number board x ≡ namesOf library a l b m board x
+  unfolding isNamed
+  names-out =
+      let e1 : number / 67_108_864 ≡ a = omega arith in
+      let e2 : number / 262_144 % 256 ≡ l = omega arith in
+      let e3 : number / 1_024 % 256 ≡ b - (a + l) = omega arith in
+      let e4 : number / 4 % 256 ≡ m = omega arith in
+      let e5 : a + l + (b - (a + l)) ≡ b = omega arith in
+      rw (e1, e2, e3, e4, e5)
+
+code-is : (j k : Bool) → eqb (codeFor k) (codeFor j) ≡ true → j ≡ k
+code-is true true h = refl
+code-is true false h = absurd (false≢true h)
+code-is false true h = absurd (false≢true h)
+code-is false false h = refl
+
+code-low : (k : Bool) → codeFor k ≤ 2
+code-low true = omega arith
+code-low false = omega arith
+
+-- the kind and the names that it was packed from
+pub record Packed (library : List ℕ) (j k : Bool) (a l b m : ℕ) (board : List ℕ) (x : List ℤ) : Type 0 where
+  pub kind : j ≡ k
+  pub names : namesOf library a l b m board x ≡ true
+
+whole-true : (library : List ℕ) (j k : Bool) (a l b m : ℕ) (board : List ℕ) (x : List ℤ) → a ≤ 16_777_216 → l ≤ 255 → m ≤ 255 → a + l ≤ b → b - (a + l) ≤ 255
+    → holdsName library j board x ((((a * 256 + l) * 256 + (b - (a + l))) * 256 + m) * 4 + codeFor k) ≡ true → Packed library j k a l b m board x
+unfolding holdsName
+whole-true library j k a l b m board x h1 h2 h3 h4 h5 h =
+    let n : ℕ = (((a * 256 + l) * 256 + (b - (a + l))) * 256 + m) * 4 + codeFor k in
+    let o : n % 4 ≡ codeFor k = code-out library a l b m board x h1 h2 h3 h4 h5 (codeFor k) (code-low k) in
+    record {
+      kind = code-is j k (ap (λ (c : ℕ). eqb c (codeFor j)) (sym o) ∙ and-left (eqb (n % 4) (codeFor j)) (isNamed library n board x) h);
+      names = sym (names-out library a l b m board x h1 h2 h3 h4 h5 (codeFor k) (code-low k)) ∙ and-right (eqb (n % 4) (codeFor j)) (isNamed library n board x) h;
+    }
+
+pack-true : (library : List ℕ) (j k : Bool) (a l b m : ℕ) (board : List ℕ) (x : List ℤ) → holdsName library j board x (packOf k a l b m) ≡ true → Packed library j k a l b m board x
+unfolding packOf
+pack-true library j k a l b m board x =
+    go (ltb 16_777_216 a) (ltb 255 l) (ltb 255 m) (ltb b (a + l)) (ltb 255 (b - (a + l))) refl refl refl refl refl
+  where
+    no : holdsName library j board x 0 ≡ true → Packed library j k a l b m board x
+    no h = absurd (false≢true (sym (empty-none library j board x) ∙ h))
+
+    go : (c1 c2 c3 c4 c5 : Bool) → ltb 16_777_216 a ≡ c1 → ltb 255 l ≡ c2 → ltb 255 m ≡ c3 → ltb b (a + l) ≡ c4 → ltb 255 (b - (a + l)) ≡ c5
+        → holdsName library j board x (cond c1 0 (cond c2 0 (cond c3 0 (cond c4 0 (cond c5 0 ((((a * 256 + l) * 256 + (b - (a + l))) * 256 + m) * 4 + codeFor k)))))) ≡ true → Packed library j k a l b m board x
+    go true c2 c3 c4 c5 e1 e2 e3 e4 e5 h = no h
+    go false true c3 c4 c5 e1 e2 e3 e4 e5 h = no h
+    go false false true c4 c5 e1 e2 e3 e4 e5 h = no h
+    go false false false true c5 e1 e2 e3 e4 e5 h = no h
+    go false false false false true e1 e2 e3 e4 e5 h = no h
+    go false false false false false e1 e2 e3 e4 e5 h =
+        whole-true library j k a l b m board x (ltb-false 16_777_216 a e1) (ltb-false 255 l e2) (ltb-false 255 m e3) (ltb-false b (a + l) e4) (ltb-false 255 (b - (a + l)) e5) h
+
+-- two texts by their starts and lengths without sign
+row-true : (library : List ℕ) (j k : Bool) (y : List ℤ) (board : List ℕ) (x : List ℤ) → holdsName library j board x (packedRow k y) ≡ true → (j ≡ k) × (sameEntry library y board x ≡ true)
+unfolding packedRow sameEntry sameIn textIs
+row-true library j k y board x h =
+    let p = pack-true library j k (natAbs (columnAt y 1)) (natAbs (columnAt y 2)) (natAbs (columnAt y 3)) (natAbs (columnAt y 4)) board x h in
+    (p .kind, p .names)
+
+-- a row of the library, in the slots
+module _ (library places : List ℕ) (y : List ℤ) (s : Stocked library places) where
+  abbrev Has : ℕ → Type 0
+  Has e = (j : Bool) (board : List ℕ) (x : List ℤ) → holdsName library j board x e ≡ true → hasEntry library (kindFor j) board x ≡ true
+
+  put-true : (k : Bool) → ((board : List ℕ) (x : List ℤ) → sameEntry library y board x ≡ true → hasEntry library (kindFor k) board x ≡ true)
+      → Stocked library (slot.placed places (keyOf library y) (packedRow k y))
+  put-true k g = record {
+    room = rw (placed-length places (keyOf library y) (packedRow k y)) (s .room);
+    has = placed-all Has places (keyOf library y) (packedRow k y) (s .room) (s .has) (λ j board x h.
+        let r = row-true library j k y board x h in
+        ap (λ (i : Bool). hasEntry library (kindFor i) board x) (r .0) ∙ g board x (r .1));
+  }
+
+  stocked-true : ((k : ℤ) (board : List ℕ) (x : List ℤ) → (eqZ (columnAt y 0) k && sameEntry library y board x) ≡ true → hasEntry library k board x ≡ true)
+      → Stocked library (stockedRow library places y)
+  unfolding stockedRow
+  stocked-true g = go (eqZ (columnAt y 0) (pos 141)) (eqZ (columnAt y 0) (pos 151)) refl refl
+    where
+      go : (a b : Bool) → eqZ (columnAt y 0) (pos 141) ≡ a → eqZ (columnAt y 0) (pos 151) ≡ b
+          → Stocked library (cond a (slot.placed places (keyOf library y) (packedRow false y)) (cond b (slot.placed places (keyOf library y) (packedRow true y)) places))
+      go true b e i = put-true false (λ board x h. g (pos 141) board x (rw (e, h)))
+      go false true e i = put-true true (λ board x h. g (pos 151) board x (rw (i, h)))
+      go false false e i = s
+
+-- all lines of the library
+abbrev Shown : List ℕ → Trace → Type 0
+Shown library t = (k : ℤ) (board : List ℕ) (x : List ℤ) → entryIn library k board x t ≡ true → hasEntry library k board x ≡ true
+
+or-left : (a b : Bool) → a ≡ true → (a || b) ≡ true
+or-left true b h = refl
+or-left false b h = absurd (false≢true h)
+
+or-right : (a b : Bool) → b ≡ true → (a || b) ≡ true
+or-right true b h = refl
+or-right false b h = h
+
+stock-in : (library places : List ℕ) (t : Trace) → Shown library t → Stocked library places → Stocked library (stockIn library places t)
+unfolding stockIn entryIn
+stock-in library places (done w) g s = s
+stock-in library places (stop n l) g s = s
+stock-in library places (skip l t) g s = stock-in library places t g s
+stock-in library places (row l y t) g s =
+    stock-in library (stockedRow library places y) t
+    (λ k board x h. g k board x (or-right (eqZ (columnAt y 0) k && sameEntry library y board x) (entryIn library k board x t) h))
+    (stocked-true library places y s (λ k board x h. g k board x (or-left (eqZ (columnAt y 0) k && sameEntry library y board x) (entryIn library k board x t) h)))
+
+stock-true : (library places : List ℕ) → Stocked library places → Stocked library (stockOf library places)
+unfolding stockOf hasEntry
+stock-true library places = stock-in library places (traceOf library) (λ k board x h. h)
+
+-- slots before anything is put into them
+getD-past : (xs : List ℕ) (i : ℕ) → length xs ≤ i → getD xs i 0 ≡ 0
+getD-past [] i h = refl
+getD-past (x ∷ xs) zero h = absurd (omega arith)
+getD-past (x ∷ xs) (suc i) h = getD-past xs i (omega arith)
+
+abbrev empty : ℕ → List ℕ
+empty n = replicate n 0
+
+empty-length : (n : ℕ) → length (empty n) ≡ n
+empty-length n = let z : ℕ = 0 in length-replicate n z
+
+none-held : (n i : ℕ) → getD (empty n) i 0 ≡ 0
+none-held n i = go (ltb i n) refl
+  where
+    go : (b : Bool) → ltb i n ≡ b → getD (empty n) i 0 ≡ 0
+    go true e = getD-replicate n i 0 0 (ltb-true i n e)
+    go false e = getD-past (empty n) i (rw (empty-length n) (ltb-false i n e))
+
+empty-stocked : (library : List ℕ) (n : ℕ) → looks < n → Stocked library (empty n)
+empty-stocked library n h = record {
+  room = rw (empty-length n) h;
+  has = λ i k board x e. absurd (false≢true (sym (empty-none library k board x) ∙ sym (ap (holdsName library k board x) (none-held n i)) ∙ e));
+}
+
+pub filled-stocked : (library ys : List ℕ) → ys ≡ stockOf library (empty 65_536) → Stocked library ys
+filled-stocked library ys e = subst (Stocked library) (sym e) (stock-true library (empty 65_536) (empty-stocked library 65_536 (omega arith)))
+
+-- as the code asks them
+module _ (library places : List ℕ) (s : Stocked library places) where
+  pub stocked-room : looks < length places
+  stocked-room = s .room
+
+  module _ (k : Bool) (board : List ℕ) (x : List ℤ) (p : Bool) (e : p ≡ holds (holdsName library k board x) places (keyOf board x)) where
+    pub stocked-found : p ≡ true → true ≡ hasEntry library (kindFor k) board x
+    stocked-found h = sym (held-sound (hasEntry library (kindFor k) board x ≡ true) (holdsName library k board x) places (keyOf board x) (λ i. s .has i k board x) (sym e ∙ h))
+
+pub stocked-slow : (library : List ℕ) (k : Bool) (z : ℤ) (board : List ℕ) (x : List ℤ) (r : Bool) → z ≡ kindFor k → r ≡ hasEntry library z board x → r ≡ hasEntry library (kindFor k) board x
+stocked-slow library k z board x r e i = i ∙ rw e

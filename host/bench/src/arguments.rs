@@ -1,0 +1,91 @@
+//! What the command line may say.
+
+use std::time::Duration;
+
+/// What `--help` prints.
+pub const HELP: &str = "\
+Times the proved library against the second reader on boards, panels and libraries of 1, 4 and 16 MiB, and says which bounds are met.
+
+Usage: tools/bench [OPTIONS]
+
+Options:
+      --rounds N       Time each operation N times and take the best [default: 5]
+      --limit SECONDS  Give up on a single run that takes longer [default: 20]
+      --quick          The sizes of 1 MiB only, and no special cases
+  -h, --help           Print this
+
+The tables go to standard output, progress to standard error.
+Exit code: 0, met or not; 1 if the two answer differently; 2 if the command line is wrong.
+";
+
+/// What was asked for.
+#[derive(Debug, Clone, Copy, PartialEq, Eq)]
+pub struct Arguments {
+    /// How often each operation is timed.
+    pub rounds: u32,
+    /// How long a single run may take.
+    pub limit: Duration,
+    /// Whether only the smallest size is timed.
+    pub quick: bool,
+}
+
+/// What a command line says.
+#[derive(Debug, PartialEq, Eq)]
+pub enum Command {
+    /// Print the help.
+    Help,
+    /// Run.
+    Run(Arguments),
+}
+
+/// Reads a command line, the program's name left off; what is wrong with it is said in words.
+pub fn parse(mut words: impl Iterator<Item = String>) -> Result<Command, String> {
+    let mut arguments = Arguments { rounds: 5, limit: Duration::from_secs(20), quick: false };
+    while let Some(word) = words.next() {
+        match word.as_str() {
+            "-h" | "--help" => return Ok(Command::Help),
+            "--quick" => arguments.quick = true,
+            "--rounds" => arguments.rounds = whole(&word, words.next())?,
+            "--limit" => arguments.limit = Duration::from_secs(whole(&word, words.next())?.into()),
+            _ => return Err(format!("{word}: no such option")),
+        }
+    }
+    Ok(Command::Run(arguments))
+}
+
+/// The whole number above 0 that an option wants.
+fn whole(option: &str, value: Option<String>) -> Result<u32, String> {
+    let value = value.ok_or_else(|| format!("{option}: a number is missing"))?;
+    match value.parse() {
+        Ok(number) if number > 0 => Ok(number),
+        _ => Err(format!("{option} {value}: not a whole number above 0")),
+    }
+}
+
+#[cfg(test)]
+mod tests {
+    use super::*;
+
+    fn parsed(line: &str) -> Result<Command, String> {
+        parse(line.split_whitespace().map(String::from))
+    }
+
+    #[test]
+    fn options_are_read_in_any_order() {
+        let wanted = Arguments { rounds: 2, limit: Duration::from_secs(7), quick: true };
+        assert_eq!(parsed("--limit 7 --quick --rounds 2"), Ok(Command::Run(wanted)));
+        assert_eq!(parsed("--quick --help --wrong"), Ok(Command::Help));
+    }
+
+    #[test]
+    fn wrong_arguments_are_named() {
+        for (line, fault) in [
+            ("--fast", "--fast: no such option"),
+            ("--rounds", "--rounds: a number is missing"),
+            ("--rounds 0", "--rounds 0: not a whole number above 0"),
+            ("--limit x", "--limit x: not a whole number above 0"),
+        ] {
+            assert_eq!(parsed(line), Err(fault.to_string()));
+        }
+    }
+}

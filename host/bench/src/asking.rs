@@ -1,0 +1,173 @@
+//! The two libraries asked the same: one operation on one subject, its reply as four numbers.
+
+use std::fmt;
+
+use crate::files::{self, components_in, Placed};
+use crate::sheet::Sheet;
+
+/// Number, line, count, and which of two files was refused.
+pub type Answer = [u64; 4];
+
+/// Who answers.
+#[derive(Debug, Clone, Copy, PartialEq, Eq)]
+pub enum Side {
+    /// The proved library.
+    Proved,
+    /// The second reader.
+    Second,
+}
+
+/// What is asked.
+#[derive(Debug, Clone, Copy, PartialEq, Eq)]
+pub enum Operation {
+    /// Whether the file is accepted.
+    Check,
+    /// The file's rows, into a lent slice.
+    Read,
+    /// The text of the file's rows, into a lent slice.
+    Write,
+    /// Whether the file and its respaced copy say the same.
+    Same,
+    /// Whether each placement has its entry in the library.
+    Judge,
+}
+
+impl Operation {
+    /// Every operation.
+    pub const ALL: [Operation; 5] =
+        [Operation::Check, Operation::Read, Operation::Write, Operation::Same, Operation::Judge];
+}
+
+impl fmt::Display for Operation {
+    fn fmt(&self, f: &mut fmt::Formatter) -> fmt::Result {
+        f.pad(match self {
+            Operation::Check => "check",
+            Operation::Read => "read",
+            Operation::Write => "write",
+            Operation::Same => "same",
+            Operation::Judge => "judge",
+        })
+    }
+}
+
+/// What lent numbers and bytes are filled with, so that their memory is there before the clock starts.
+const MARK: u8 = b'?';
+
+/// What is lent to an operation.
+#[derive(PartialEq, Eq)]
+pub struct Lent {
+    /// For rows.
+    pub rows: Vec<i64>,
+    /// For text.
+    pub text: Vec<u8>,
+}
+
+/// What operations are run on, all of it accepted.
+pub struct Subject {
+    /// The file.
+    pub file: Vec<u8>,
+    copy: Vec<u8>,
+    /// The library by which a board or panel is judged.
+    pub library: Option<Vec<u8>>,
+    rows: Vec<i64>,
+    text_len: usize,
+}
+
+impl Subject {
+    /// A board or panel of a size, with a library of a quarter of it.
+    pub fn placed(kind: Placed, size: usize) -> Subject {
+        let parts = components_in(size / 4);
+        let library = files::library(size / 4, parts);
+        Subject::new(files::placed(kind, size, parts), Some(library))
+    }
+
+    /// A library of a size.
+    pub fn library(size: usize) -> Subject {
+        Subject::new(files::library(size, components_in(size)), None)
+    }
+
+    /// A board of so many placements, with a library of so many components.
+    pub fn counted(placements: usize, components: usize) -> Subject {
+        let size = files::LARGEST / files::MOST_COMPONENTS * components;
+        let library = files::library(size, components);
+        Subject::new(files::board_of(placements, components), Some(library))
+    }
+
+    fn new(Sheet { file, copy, .. }: Sheet, library: Option<Sheet>) -> Subject {
+        let rows = second::rows(&file).expect("a made file is accepted").concat();
+        let text_len = second::canon(&file).expect("a made file's text is within the limit").len();
+        let library = library.map(|sheet| sheet.file);
+        let accepted = library.iter().all(|library| second::check(library).number == 0);
+        assert!(accepted, "a made library is accepted");
+        Subject { file, copy, library, rows, text_len }
+    }
+
+    /// The library of this subject by itself.
+    pub fn only_library(&self) -> Option<Subject> {
+        let file = self.library.clone()?;
+        Some(Subject { file, copy: Vec::new(), library: None, rows: Vec::new(), text_len: 0 })
+    }
+
+    /// Whether the operation can be asked.
+    pub fn allows(&self, operation: Operation) -> bool {
+        operation != Operation::Judge || self.library.is_some()
+    }
+
+    /// The bytes that an operation goes through: what it reads, or the text that it writes.
+    pub fn bytes(&self, operation: Operation) -> usize {
+        match operation {
+            Operation::Check | Operation::Read => self.file.len(),
+            Operation::Write => self.text_len,
+            Operation::Same => self.file.len() + self.copy.len(),
+            Operation::Judge => self.file.len() + self.entries().len(),
+        }
+    }
+
+    /// What an operation needs to be lent.
+    pub fn lent(&self, operation: Operation) -> Lent {
+        let (rows, text) = match operation {
+            Operation::Read => (self.rows.len(), 0),
+            Operation::Write => (0, self.text_len),
+            _ => (0, 0),
+        };
+        Lent { rows: vec![MARK.into(); rows], text: vec![MARK; text] }
+    }
+
+    /// Asks one side.
+    pub fn ask(&self, side: Side, operation: Operation, lent: &mut Lent) -> Answer {
+        match side {
+            Side::Proved => self.ask_proved(operation, lent),
+            Side::Second => self.ask_second(operation, lent),
+        }
+    }
+
+    fn ask_proved(&self, operation: Operation, lent: &mut Lent) -> Answer {
+        use quayladle::{check, judge, read, same, write, Reply, Verdict};
+        let one = |reply: Reply| [reply.number, reply.line, reply.count, 0];
+        let two = |Verdict { reply, which }| [reply.number, reply.line, reply.count, which];
+        match operation {
+            Operation::Check => one(check(&self.file)),
+            Operation::Read => one(read(&self.file, &mut lent.rows)),
+            Operation::Write => one(write(&self.rows, &self.file, &mut lent.text)),
+            Operation::Same => two(same(&self.file, &self.copy)),
+            Operation::Judge => two(judge(&self.file, self.entries())),
+        }
+    }
+
+    fn ask_second(&self, operation: Operation, lent: &mut Lent) -> Answer {
+        use second::{check, judge, read, same, write, Reply};
+        let one = |reply: Reply| [reply.number, reply.line, reply.count, 0];
+        let two = |(reply, which): (Reply, u64)| [reply.number, reply.line, reply.count, which];
+        match operation {
+            Operation::Check => one(check(&self.file)),
+            Operation::Read => one(read(&self.file, &mut lent.rows)),
+            Operation::Write => one(write(&self.rows, &self.file, &mut lent.text)),
+            Operation::Same => two(same(&self.file, &self.copy)),
+            Operation::Judge => two(judge(&self.file, self.entries())),
+        }
+    }
+
+    fn entries(&self) -> &[u8] {
+        self.library.as_deref().unwrap_or_default()
+    }
+}

@@ -1,0 +1,112 @@
+//! The second table: files on which a reader that looks names up one by one takes too long.
+
+use std::sync::Arc;
+use std::time::Duration;
+
+use crate::asking::{Operation, Subject};
+use crate::files::{LARGEST, MOST_COMPONENTS};
+use crate::speeds::{per_byte, Kind, Speed};
+use crate::table::{figure, Table};
+use crate::timing::{Clock, Differs, Times};
+
+/// How many placements are judged by how many components in case b.
+const PLACEMENTS: usize = 50_000;
+const COMPONENTS: usize = 20_000;
+
+/// One special case: what it takes, and that over what it is held against.
+pub struct Special {
+    /// The letter by which the bounds name it.
+    pub letter: char,
+    what: String,
+    times: Times,
+    /// The proved library's ratio.
+    pub proved: Option<f64>,
+    second: Option<f64>,
+}
+
+/// The special cases; a and c are of files that the first table has timed.
+pub fn measured(clock: &mut Clock, speeds: &[Speed]) -> Result<Vec<Special>, Differs> {
+    let judged = judging(clock)?;
+    let mut cases = Vec::new();
+    cases.extend(against_board(speeds, Operation::Check, 'a'));
+    cases.push(judged);
+    cases.extend(against_board(speeds, Operation::Write, 'c'));
+    Ok(cases)
+}
+
+/// The largest library's time per byte over that of the largest board, if both were timed.
+fn against_board(speeds: &[Speed], operation: Operation, letter: char) -> Option<Special> {
+    let largest = |kind: Kind| {
+        let wanted = |speed: &&Speed| (speed.kind, speed.operation) == (kind, operation);
+        speeds.iter().filter(wanted).find(|speed| speed.size == LARGEST)
+    };
+    let (library, board) = (largest(Kind::Library)?, largest(Kind::Board)?);
+    let ratio = |time: fn(&Times) -> Option<Duration>| {
+        let of = |speed: &Speed| per_byte(time(&speed.times), speed.bytes);
+        Some(of(library)? / of(board)?)
+    };
+    Some(Special {
+        letter,
+        what: format!(
+            "{operation} a library of 16 MiB with {} components; per byte, over {operation} of a board of 16 MiB",
+            thousands(MOST_COMPONENTS)
+        ),
+        times: library.times,
+        proved: ratio(|times| times.proved),
+        second: ratio(|times| times.second),
+    })
+}
+
+/// Judging over checking both files.
+fn judging(clock: &mut Clock) -> Result<Special, Differs> {
+    eprintln!("bench: making a board of {PLACEMENTS} placements");
+    let made = |share: usize| Arc::new(Subject::counted(PLACEMENTS / share, COMPONENTS / share));
+    let pilots = [256, 64, 16, 4].map(made);
+    let subject = [made(1)];
+    let alone = |whole: &Arc<Subject>| whole.only_library().map(Arc::new);
+    let library_pilots: Vec<_> = pilots.iter().filter_map(alone).collect();
+    let library: Vec<_> = subject.iter().filter_map(alone).collect();
+    let board = clock.climb("board of case b", Operation::Check, &pilots, &subject)?;
+    let library = clock.climb("library of case b", Operation::Check, &library_pilots, &library)?;
+    let judged = clock.climb("case b", Operation::Judge, &pilots, &subject)?;
+    let ratio = |time: fn(&Times) -> Option<Duration>| {
+        let seconds = |times: &Times| time(times).map(|time| time.as_secs_f64());
+        Some(seconds(&judged[0])? / (seconds(&board[0])? + seconds(&library[0])?))
+    };
+    Ok(Special {
+        letter: 'b',
+        what: format!(
+            "judge {} placements by {} components; over check of both files",
+            thousands(PLACEMENTS),
+            thousands(COMPONENTS)
+        ),
+        times: judged[0],
+        proved: ratio(|times| times.proved),
+        second: ratio(|times| times.second),
+    })
+}
+
+/// A number of thousands with its comma.
+fn thousands(number: usize) -> String {
+    format!("{},{:03}", number / 1000, number % 1000)
+}
+
+/// The table; `over` stands where the proved library is over the limit.
+pub fn table(cases: &[Special], over: &str) -> Table {
+    let names = ["", "case", "proved s", "second s", "proved ratio", "second ratio"];
+    let mut table = Table::new(2, &names);
+    for case in cases {
+        let seconds = |time: Option<Duration>| {
+            time.map_or(over.to_string(), |time| format!("{:.3}", time.as_secs_f64()))
+        };
+        table.add([
+            case.letter.to_string(),
+            case.what.clone(),
+            seconds(case.times.proved),
+            seconds(case.times.second),
+            figure(case.proved),
+            figure(case.second),
+        ]);
+    }
+    table
+}
