@@ -2,7 +2,7 @@
 use Prim.Native.Nat.{ℕ, _+_, _-_, _^_, _≤_, _<_, min}
 use mathlib.Core.Path.{_≡_, refl, sym, ap, _∙_}
 use mathlib.Core.List.{List}
-use mathlib.Core.Bool.{Bool, true, false, cond, not, _&&_, true≢false}
+use mathlib.Core.Bool.{Bool, true, false, not, _&&_}
 use native.Mathlib.Omega.{arith}
 use mir.Syntax.{w64}
 use mir.Val.{SFits}
@@ -16,7 +16,7 @@ use Rattle.form.proofs.KindLaws.{same-eq}
 use Rattle.slots.specs.Looks.{looks}
 use Rattle.slots.specs.Hashes.{hashed}
 use Rattle.slots.specs.Slots.{mayHold, marked}
-use Rattle.slots.proofs.SlotLaws.{marked-length, marked-held, marked-keeps}
+use Rattle.slots.proofs.SlotLaws.{marking-length, marking-keeps, marking-here}
 use Rattle.reading.specs.declared.Reply.{Reply}
 use Rattle.reading.specs.declared.Walk.{Walk}
 use Rattle.reading.specs.declared.Turn.{Turn}
@@ -27,7 +27,7 @@ use Rattle.reading.specs.Replies.{reply, countedBy, endedBy, survey, che
 use Rattle.reading.specs.Marks.{keyOf, markedBy, Telling, sizedReply}
 use Rattle.reading.proofs.LineLaws.{column}
 use Rattle.reading.proofs.WalkLaws.{going-trace}
-use Rattle.reading.proofs.NameLaws.{part-is, used-on, used-late, Asking, ask-start, ask-stop, ask-found, ask-more, ask-over}
+use Rattle.reading.proofs.NameLaws.{part-is, used-on, used-late, and-assoc, Asking, ask-start, ask-stop, ask-found, ask-more, ask-over}
 use Rattle.reading.proofs.ReplyLaws.{Surveying, survey-start, survey-steady, survey-count, survey-stop, survey-more, survey-less, survey-over}
 
 -- the hash of a name
@@ -81,16 +81,9 @@ module _ (file : List ℕ) (t : Turn) (marks : List ℕ) (y : Bool) (e : y ≡ i
 pub telling-room : (file : List ℕ) (n : ℕ) (marks : List ℕ) → Telling file n marks → looks < length marks
 telling-room file n marks a = a .room
 
-pub marked-same-length : (marks ys : List ℕ) (k : ℕ) → ys ≡ marked marks k → length ys ≡ length marks
-marked-same-length marks ys k e = ap length e ∙ marked-length marks k
-
 by-length : (file marks : List ℕ) (t : Turn) → length (markedBy file marks t) ≡ length marks
 unfolding markedBy
-by-length file marks t = go (isNamed t)
-  where
-    go : (b : Bool) → length (cond b (marked marks (keyOf file (t .row))) marks) ≡ length marks
-    go true = marked-length marks (keyOf file (t .row))
-    go false = refl
+by-length file marks t = marking-length marks (keyOf file (t .row)) (isNamed t)
 
 -- a name without a mark comes in what is left, if at all
 pub record Marking (file : List ℕ) (w : Walk) (marks : List ℕ) : Type 0 where
@@ -105,23 +98,13 @@ line-on file w t e = ap (λ (u : Turn). u .walk .line) e
 module _ (file marks : List ℕ) (t : Turn) (room : looks < length marks) where
   clear-before : (g : ℕ) → mayHold (markedBy file marks t) g ≡ false → mayHold marks g ≡ false
   unfolding markedBy
-  clear-before g h = go (isNamed t) (mayHold marks g) refl h
-    where
-      go : (b c : Bool) → mayHold marks g ≡ c → mayHold (cond b (marked marks (keyOf file (t .row))) marks) g ≡ false → c ≡ false
-      go b false e k = refl
-      go false true e k = absurd (true≢false (sym e ∙ k))
-      go true true e k = absurd (true≢false (sym (marked-keeps marks (keyOf file (t .row)) g e) ∙ k))
+  clear-before g h = marking-keeps marks (keyOf file (t .row)) (isNamed t) g h
 
   clear-here : (x : List ℤ) → mayHold (markedBy file marks t) (keyOf file x) ≡ false → (isRow (t .found) && (leadsComponent (t .row) && sameNames file (t .row) x)) ≡ false
   unfolding markedBy isNamed
-  clear-here x h = go (isRow (t .found)) (leadsComponent (t .row)) (sameNames file (t .row) x) refl h
-    where
-      go : (a b c : Bool) → sameNames file (t .row) x ≡ c → mayHold (cond (a && b) (marked marks (keyOf file (t .row))) marks) (keyOf file x) ≡ false → (a && (b && c)) ≡ false
-      go false b c e k = refl
-      go true false c e k = refl
-      go true true false e k = refl
-      go true true true e k =
-          absurd (true≢false (sym (ap (mayHold (marked marks (keyOf file (t .row)))) (sym (same-key file (t .row) x e)) ∙ marked-held marks (keyOf file (t .row)) room) ∙ k))
+  clear-here x h =
+      sym (and-assoc (isRow (t .found)) (leadsComponent (t .row)) (sameNames file (t .row) x))
+      ∙ marking-here marks (keyOf file (t .row)) room (isRow (t .found) && leadsComponent (t .row)) (sameNames file (t .row) x) (keyOf file x) (same-key file (t .row) x) h
 
 -- a walk that checks: its reply so far, the first name used twice, and the marks
 pub record Checking (file marks₀ marks : List ℕ) (w : Walk) (at : ℕ) (r : Reply) : Type 0 where

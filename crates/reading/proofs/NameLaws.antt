@@ -99,7 +99,7 @@ module _ (file : List ℕ) (x y : List ℤ) (p : Bool)
 pub leads-is : (x : List ℤ) (p q : Bool) → SFits w64 (columnAt x 0) → p ≡ eqZ (column x 0) (pos 141) → q ≡ eqZ (column x 0) (pos 151) → (p || q) ≡ leadsComponent x
 leads-is x p q f e i = rw (same-as (columnAt x 0) (pos 141) p f e, same-as (columnAt x 0) (pos 151) q f i)
 
-and-assoc : (a b c : Bool) → ((a && b) && c) ≡ (a && (b && c))
+pub and-assoc : (a b c : Bool) → ((a && b) && c) ≡ (a && (b && c))
 and-assoc true b c = refl
 and-assoc false b c = refl
 

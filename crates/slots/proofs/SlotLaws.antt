@@ -2,7 +2,7 @@
 use Prim.Native.Nat.{ℕ, zero, suc, _+_, _-_, _%_, _≤_, _<_}
 use mathlib.Core.Path.{_≡_, refl, sym, ap, subst, _∙_}
 use mathlib.Core.List.{List}
-use mathlib.Core.Bool.{Bool, true, false, cond, false≢true}
+use mathlib.Core.Bool.{Bool, true, false, cond, _&&_, true≢false, false≢true}
 use native.Mathlib.Omega.{arith}
 use native.Mathlib.Nat.{mod-lt}
 use borrow.Author.Tests.{eqb-true, eqb-false, eq-eqb, ne-eqb}
@@ -275,6 +275,30 @@ marked-keeps xs h g e =
   where
     kept : lookFrom true looks (is (markOf g)) xs (slotOf g (length xs)) ≡ true → lookFrom true looks (is (markOf g)) (marked xs h) (slotOf g (length xs)) ≡ true
     kept = put-keeps looks looks (is (markOf g)) xs (slotOf g (length xs)) (slotOf h (length xs)) (markOf h)
+
+pub marked-same-length : (xs ys : List ℕ) (h : ℕ) → ys ≡ marked xs h → length ys ≡ length xs
+marked-same-length xs ys h e = ap length e ∙ marked-length xs h
+
+-- with a mark where a test passes
+module _ (xs : List ℕ) (h : ℕ) where
+  pub marking-length : (b : Bool) → length (cond b (marked xs h) xs) ≡ length xs
+  marking-length true = marked-length xs h
+  marking-length false = refl
+
+  -- what has no mark then had none before
+  pub marking-keeps : (b : Bool) (g : ℕ) → mayHold (cond b (marked xs h) xs) g ≡ false → mayHold xs g ≡ false
+  marking-keeps b g k = go b (mayHold xs g) refl k
+    where
+      go : (b c : Bool) → mayHold xs g ≡ c → mayHold (cond b (marked xs h) xs) g ≡ false → c ≡ false
+      go b false e k = refl
+      go false true e k = absurd (true≢false (sym e ∙ k))
+      go true true e k = absurd (true≢false (sym (marked-keeps xs h g e) ∙ k))
+
+  -- and what was marked has one
+  pub marking-here : looks < length xs → (b c : Bool) (g : ℕ) → (c ≡ true → h ≡ g) → mayHold (cond b (marked xs h) xs) g ≡ false → (b && c) ≡ false
+  marking-here r false c g e k = refl
+  marking-here r true false g e k = refl
+  marking-here r true true g e k = absurd (true≢false (sym (ap (mayHold (marked xs h)) (sym (e refl)) ∙ marked-held xs h r) ∙ k))
 
 -- numbers by their hashes
 

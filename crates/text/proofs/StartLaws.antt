@@ -1,6 +1,6 @@
 -- Laws of a line without regard to quoting, and why it counts the fields of one without quotes.
 use Prim.Native.Nat.{ℕ, zero, suc, _+_, _-_, _^_, _≤_, _<_}
-use mir.Syntax.{w64}
+use mir.Syntax.{w8}
 use mir.Val.{Fits}
 use mathlib.Core.Path.{_≡_, refl, sym, ap, _∙_}
 use mathlib.Core.List.{List, [], _∷_}
@@ -67,7 +67,7 @@ one-small true = omega arith
 one-small false = omega arith
 
 module _ (line : List ℕ) (n : ℕ) (quoted space : Bool) (i : ℕ) (p : Plaining line n quoted space i) where
-  pub plain-fits : (m : ℕ) (b : Bool) → i < length line → length line < 2 ^ 64 → m ≡ oneIf b → Fits w64 (n + m)
+  pub plain-fits : (m : ℕ) (b : Bool) → i < length line → length line < 256 → m ≡ oneIf b → Fits w8 (n + m)
   plain-fits m b h f e = let k = p .few in let l : m ≤ 1 = rw e (one-small b) in omega arith
 
   pub plain-more : (m : ℕ) → i < length line → m ≡ oneIf (space && not (eqb (getD line i 0) 32))

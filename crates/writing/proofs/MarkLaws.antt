@@ -2,14 +2,14 @@
 use Prim.Native.Nat.{ℕ, zero, suc, _+_, _-_, _/_, _≤_, _<_}
 use mathlib.Core.Path.{_≡_, refl, sym, ap, _∙_}
 use mathlib.Core.List.{List, [], _∷_}
-use mathlib.Core.Bool.{Bool, true, false, cond, not, _&&_, _||_, true≢false}
+use mathlib.Core.Bool.{Bool, true, false, not, _&&_, _||_}
 use native.Mathlib.Omega.{arith}
 use borrow.Author.Tests.{not-true, not-false}
 use lib.IntN.{ℤ}
 use lib.ListN.{length, drop}
 use Rattle.slots.specs.Looks.{looks}
 use Rattle.slots.specs.Slots.{mayHold, marked}
-use Rattle.slots.proofs.SlotLaws.{marked-length, marked-held, marked-keeps}
+use Rattle.slots.proofs.SlotLaws.{marking-length, marking-keeps, marking-here}
 use Rattle.reading.specs.Names.{leadsComponent, sameNames}
 use Rattle.reading.specs.Marks.{keyOf}
 use Rattle.reading.proofs.MarkLaws.{same-key}
@@ -43,37 +43,19 @@ module _ (bytes : List ℕ) (x : List ℤ) (marks : List ℕ) (a : Bool) (e : a 
 pub told-room : (bytes : List ℕ) (ys : List (List ℤ)) (marks : List ℕ) → Told bytes ys marks → looks < length marks
 told-room bytes ys marks t = t .room
 
-pub marked-same-length : (marks zs : List ℕ) (k : ℕ) → zs ≡ marked marks k → length zs ≡ length marks
-marked-same-length marks zs k e = ap length e ∙ marked-length marks k
-
 row-length : (bytes marks : List ℕ) (x : List ℤ) → length (markedRow bytes marks x) ≡ length marks
 unfolding markedRow
-row-length bytes marks x = go (leadsComponent x)
-  where
-    go : (b : Bool) → length (cond b (marked marks (keyOf bytes x)) marks) ≡ length marks
-    go true = marked-length marks (keyOf bytes x)
-    go false = refl
+row-length bytes marks x = marking-length marks (keyOf bytes x) (leadsComponent x)
 
 -- one row more takes no mark away, and marks the name that it has
 module _ (bytes marks : List ℕ) (y : List ℤ) (room : looks < length marks) where
   clear-before : (g : ℕ) → mayHold (markedRow bytes marks y) g ≡ false → mayHold marks g ≡ false
   unfolding markedRow
-  clear-before g h = go (leadsComponent y) (mayHold marks g) refl h
-    where
-      go : (b c : Bool) → mayHold marks g ≡ c → mayHold (cond b (marked marks (keyOf bytes y)) marks) g ≡ false → c ≡ false
-      go b false e k = refl
-      go false true e k = absurd (true≢false (sym e ∙ k))
-      go true true e k = absurd (true≢false (sym (marked-keeps marks (keyOf bytes y) g e) ∙ k))
+  clear-before g h = marking-keeps marks (keyOf bytes y) (leadsComponent y) g h
 
   clear-here : (x : List ℤ) → mayHold (markedRow bytes marks y) (keyOf bytes x) ≡ false → namesIt bytes x y ≡ false
   unfolding markedRow namesIt
-  clear-here x h = go (leadsComponent y) (sameNames bytes x y) refl h
-    where
-      go : (b c : Bool) → sameNames bytes x y ≡ c → mayHold (cond b (marked marks (keyOf bytes y)) marks) (keyOf bytes x) ≡ false → (b && c) ≡ false
-      go false c e k = refl
-      go true false e k = refl
-      go true true e k =
-          absurd (true≢false (sym (ap (mayHold (marked marks (keyOf bytes y))) (same-key bytes x y e) ∙ marked-held marks (keyOf bytes y) room) ∙ k))
+  clear-here x h = marking-here marks (keyOf bytes y) room (leadsComponent y) (sameNames bytes x y) (keyOf bytes x) (λ e. sym (same-key bytes x y e)) h
 
   told-more : (ys : List (List ℤ)) → Told bytes ys marks → Told bytes (y ∷ ys) (markedRow bytes marks y)
   unfolding namedIn

@@ -9,7 +9,7 @@ Times the proved library against the second reader on boards, panels and librari
 Usage: tools/bench [OPTIONS]
 
 Options:
-      --rounds N       Time each operation N times and take the best [default: 5]
+      --rounds N       Go through the sizes N times, each side twice, and take the best [default: 5]
       --limit SECONDS  Give up on a single run that takes longer [default: 20]
       --quick          The sizes of 1 MiB only, and no special cases
   -h, --help           Print this
@@ -21,7 +21,7 @@ Exit code: 0, met or not; 1 if the two answer differently; 2 if the command line
 /// What was asked for.
 #[derive(Debug, Clone, Copy, PartialEq, Eq)]
 pub struct Arguments {
-    /// How often each operation is timed.
+    /// How often the sizes are gone through.
     pub rounds: u32,
     /// How long a single run may take.
     pub limit: Duration,

@@ -58,7 +58,11 @@ fn run(Arguments { rounds, limit, quick }: Arguments) -> Result<(), Differs> {
     let over = format!("> {} s", limit.as_secs());
     let sizes = if quick { vec![MIB] } else { vec![MIB, 4 * MIB, LARGEST] };
 
-    println!("## Speed\n\nBest of {rounds} by time on a core, the two by turns. {}\n", load());
+    println!(
+        "## Speed\n\nBest of {} by time on a core, the two by turns. {}\n",
+        2 * rounds,
+        load()
+    );
     let speeds = speeds::measured(&mut clock, &sizes)?;
     println!("{}\n{SPEED_NOTE}", speeds::table(&speeds, &over).text());
 

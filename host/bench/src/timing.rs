@@ -1,9 +1,9 @@
-//! Timing: one run in a thread of its own, given up at a limit; the best of some rounds, both sides by turns.
+//! Timing: one run in a thread of its own, given up at a limit; the best of some rounds through all sizes, both sides by turns.
 
 use std::fmt;
 use std::sync::{mpsc, Arc};
 use std::thread;
-use std::time::{Duration, Instant};
+use std::time::Duration;
 
 use crate::asking::{Answer, Lent, Operation, Side, Subject};
 use crate::cores::timed;
@@ -32,6 +32,12 @@ pub struct Times {
 }
 
 impl Times {
+    /// The better of two times of each side.
+    fn best(self, other: Times) -> Times {
+        let best = |one: Option<Duration>, two: Option<Duration>| Some(one?.min(two?));
+        Times { proved: best(self.proved, other.proved), second: best(self.second, other.second) }
+    }
+
     /// The proved library's time over the second reader's.
     pub fn ratio(&self) -> Option<f64> {
         Some(self.proved?.as_secs_f64() / self.second?.as_secs_f64())
@@ -40,7 +46,7 @@ impl Times {
 
 /// How to time, and how many runs were given up: their threads go on, so later times are not to be trusted.
 pub struct Clock {
-    /// How often each operation is timed.
+    /// How often the sizes are gone through, each time with two runs of both sides.
     pub rounds: u32,
     /// How long a single run may take.
     pub limit: Duration,
@@ -63,9 +69,10 @@ impl Run {
 }
 
 impl Clock {
-    /// Times an operation on both sides by turns, and tells if they do not agree.
+    /// Times an operation twice on both sides, and tells if they do not agree.
     ///
-    /// Where `proved` is false, only the second reader is timed. It stops after the round in which the limit is reached.
+    /// Each side is first once, so that neither always finds the file in the cache. Where `proved` is false, only the second
+    /// reader is timed.
     fn compare(
         &mut self,
         name: &str,
@@ -73,22 +80,12 @@ impl Clock {
         subject: &Arc<Subject>,
         proved: bool,
     ) -> Result<Times, Differs> {
-        let begin = Instant::now();
         let mut proved = proved.then(|| Run::before(subject.lent(operation)));
         let mut second = Some(Run::before(subject.lent(operation)));
-        for round in 0..self.rounds {
-            // Each side is first in every other round, so that neither always finds the file in the cache.
-            if round % 2 == 0 {
-                proved = self.again(proved, Side::Proved, operation, subject);
-            }
-            second = self.again(second, Side::Second, operation, subject);
-            if round % 2 == 1 {
-                proved = self.again(proved, Side::Proved, operation, subject);
-            }
-            if begin.elapsed() > self.limit {
-                break;
-            }
-        }
+        proved = self.again(proved, Side::Proved, operation, subject);
+        second = self.again(second, Side::Second, operation, subject);
+        second = self.again(second, Side::Second, operation, subject);
+        proved = self.again(proved, Side::Proved, operation, subject);
         agree(proved.as_ref(), second.as_ref(), operation)
             .map_err(|fault| Differs(format!("{name}, {operation}: {fault}")))?;
         Ok(Times { proved: proved.map(|run| run.time), second: second.map(|run| run.time) })
@@ -110,7 +107,8 @@ impl Clock {
     /// Times an operation on each of some subjects, after one run of the proved library on each of the pilots.
     ///
     /// Each has four times the size of the one before. Where those before say that the proved library would take longer than
-    /// the limit, it is not asked.
+    /// the limit, it is not asked. Later rounds go through all sizes again, so that a slow spell of the machine falls on all
+    /// of them.
     pub fn climb(
         &mut self,
         name: &str,
@@ -133,6 +131,13 @@ impl Clock {
             let times = self.compare(name, operation, subject, proved)?;
             ladder.took(times.proved);
             climbed.push(times);
+        }
+        for _ in 1..self.rounds {
+            for (subject, times) in subjects.iter().zip(&mut climbed) {
+                if times.proved.is_some() {
+                    *times = times.best(self.compare(name, operation, subject, true)?);
+                }
+            }
         }
         Ok(climbed)
     }

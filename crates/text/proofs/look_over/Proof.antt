@@ -1,7 +1,7 @@
 -- `text::look_over` meets its contract. Assumes nothing.
 use borrow.Author.Needs.{needs}
 use Rattle.text.proofs.StartLaws.{plain-start, plain-fits, plain-more, plain-over}
-use Prim.Native.Nat.{_-_}
+use Prim.Native.Nat.{_-_, _<_}
 use lib.ListN.{length}
 use Rattle.text.proofs.StartLaws.{Plaining}
 use Rattle.text.proofs.look_over.Statement.{statement}

@@ -1,6 +1,7 @@
 -- `reading::names::repeats` meets its contract. Assumes nothing.
 use borrow.Author.Needs.{needs}
-use Rattle.reading.proofs.MarkLaws.{unnamed-repeats, unnamed-marks, named-marks, named-slow, named-clear, telling-room, marked-same-length}
+use Rattle.slots.proofs.SlotLaws.{marked-same-length}
+use Rattle.reading.proofs.MarkLaws.{unnamed-repeats, unnamed-marks, named-marks, named-slow, named-clear, telling-room}
 use Rattle.reading.proofs.names.repeats.Statement.{statement}
 use Rattle.reading.proofs.names.repeats.Tie as tie
 
