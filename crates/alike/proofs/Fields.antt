@@ -10,7 +10,7 @@ use lib.ListN.{getD, replicate}
 use Rattle.form.specs.Values.{Value, Rec}
 use Rattle.form.specs.Fits.{meaning}
 use Rattle.form.specs.Layouts.{typesOf}
-use Rattle.form.specs.Letters.{widthOf}
+use Rattle.layouts.specs.Letters.{widthOf}
 use Rattle.form.specs.declared.Rules.the-variants.{Idf3}
 use Rattle.form.specs.declared.FieldType.{FieldType}
 use Rattle.form.specs.declared.FieldType.the-variants.{Text as T, Reference as Ref, Date as D, Integer as I, Number as N, Word as W}

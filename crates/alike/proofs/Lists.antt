@@ -13,8 +13,8 @@ use Rattle.form.specs.declared.FieldType.{FieldType}
 use Rattle.lines.specs.Rows.{width}
 use Rattle.lines.specs.Meaning.{Holds}
 use Rattle.records.specs.declared.State.{State}
-use Rattle.reading.specs.Walks as walk
-use Rattle.reading.specs.Walks.{Trace}
+use Rattle.walking.specs.Walks as walk
+use Rattle.walking.specs.Walks.{Trace}
 use Rattle.reading.specs.Replies.{rowsIn}
 use Rattle.files.specs.Outcomes as rows
 use Rattle.files.specs.Outcomes.{RowsMean}

@@ -10,14 +10,14 @@ use lib.Dec.{eqb}
 use lib.ListN.{length}
 use Rattle.form.specs.Values.{Rec}
 use Rattle.form.specs.declared.Rules.the-variants.{Idf3}
-use Rattle.reading.specs.Walks.{limit}
+use Rattle.records.specs.Answers.{limit}
 use Rattle.reading.specs.Replies.{checkReply}
 use Rattle.files.specs.WholeRules.{FileSays}
 use Rattle.files.proofs.Checked.{check-count, check-accepts}
 use Rattle.comparing.specs.Ignoring.{nothing}
 use Rattle.comparing.specs.SameLists.{sameFiles}
 use Rattle.comparing.specs.Verdicts.{refusedAs, foundSame, sameReply}
-use Rattle.comparing.specs.declared.Verdict.{Verdict}
+use Rattle.records.specs.declared.Verdict.{Verdict}
 use Rattle.comparing.proofs.VerdictLaws.{accepted-small}
 use Rattle.alike.proofs.Values.{sameRecs, recs-true, recs-self}
 use Rattle.alike.proofs.Lists.{files-are}

@@ -1,7 +1,7 @@
 // The columns of a case's header.
 use crate::lent;
 use crate::saying;
-use reading::Reply;
+use records::Reply;
 ghost use Prim.Native.Nat.{_<_, _≤_};
 ghost use mathlib.Core.Path.{_≡_};
 

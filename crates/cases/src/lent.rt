@@ -1,6 +1,6 @@
 // Numbers lent to `read`: a mark in each, and which of them still have it.
 use lines::WIDTH;
-use reading::Reply;
+use records::Reply;
 ghost use Prim.Native.Nat.{_≤_};
 ghost use mathlib.Core.Path.{_≡_};
 ghost use lib.ListN.{length};

@@ -18,7 +18,7 @@ mod lent;
 mod saying;
 
 use header::SIZE;
-use reading::Reply;
+use records::Reply;
 use saying::say;
 ghost use Prim.Native.Nat.{_≤_};
 

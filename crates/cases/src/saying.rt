@@ -1,6 +1,6 @@
 // What is written to standard output.
 use lines::WIDTH;
-use reading::Reply;
+use records::Reply;
 
 // Bytes as they are.
 pub(crate) fn say(words: &[u8]) {

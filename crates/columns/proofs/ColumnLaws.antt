@@ -22,7 +22,7 @@ use Rattle.measure.proofs.SignLaws.{back}
 use Rattle.form.specs.Values.{text}
 use Rattle.form.specs.Names.{wordsOf}
 use Rattle.form.specs.Compare.{sameBytes, wordAt}
-use Rattle.form.specs.Padded.{trimmed, wordRow}
+use Rattle.words.specs.Padded.{trimmed, wordRow}
 use Rattle.form.specs.Fits.{textByte, isBoard, barred, within, isEmpty, goodText, meaning, fits}
 use Rattle.form.specs.declared.Rules.{Rules}
 use Rattle.form.specs.declared.Context.{Context}
@@ -31,9 +31,9 @@ use Rattle.form.specs.declared.Limit.{Limit}
 use Rattle.form.specs.declared.FieldType.{FieldType}
 use Rattle.form.specs.declared.FieldType.the-variants.{Text as T, Reference as Ref, Date as D, Integer as I, Number as N, Word as W}
 use Rattle.loops.specs.Loops.{eqZ}
-use Rattle.form.proofs.RowLaws.{word-held}
+use Rattle.words.proofs.RowLaws.{word-held}
 use Rattle.spelling.proofs.WordSpelling.{same-refl}
-use Rattle.reading.specs.Judging.{columnAt}
+use Rattle.walking.specs.Judging.{columnAt}
 use Rattle.columns.specs.Columns.{liesIn, rangeFits, integerFits, numberFits, wordFits, fieldFits, columnFits, allZero}
 
 -- a byte of a text

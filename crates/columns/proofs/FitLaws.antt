@@ -15,13 +15,13 @@ use lib.Seq.{drop-cons}
 use Rattle.measure.specs.Signs.{below}
 use Rattle.measure.proofs.SignLaws.{back}
 use Rattle.form.specs.Layouts.{typesOf}
-use Rattle.form.specs.Letters.{widthOf, widths, typeAt, isKind}
+use Rattle.layouts.specs.Letters.{widthOf, widths, typeAt, isKind}
 use Rattle.form.specs.declared.Context.{Context}
 use Rattle.form.specs.declared.FieldType.{FieldType}
 use Rattle.form.specs.declared.FieldType.the-variants.{Text as T}
-use Rattle.form.proofs.KindLaws.{nine}
+use Rattle.layouts.proofs.KindLaws.{nine}
 use Rattle.lines.specs.Rows.{width}
-use Rattle.reading.specs.Judging.{columnAt}
+use Rattle.walking.specs.Judging.{columnAt}
 use Rattle.columns.specs.Columns.{columnFits, allZero, fieldsFit, rowFits}
 
 -- the fields passed fit, and there is room for those that are left

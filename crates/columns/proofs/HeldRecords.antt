@@ -11,7 +11,7 @@ use lib.ListN.{length, getD, take, drop, replicate}
 use lib.Seq.{drop-drop, getD-drop}
 use Rattle.form.specs.Values.{Value, number, word, text, Rec}
 use Rattle.form.specs.Layouts.{Layout, layoutOf, typesBy, typesOf}
-use Rattle.form.specs.Letters.{widthOf, knownBy, isKind}
+use Rattle.layouts.specs.Letters.{widthOf, knownBy, isKind}
 use Rattle.form.specs.Fits.{meaning, fits, fitsAll, fitsBy, wellFormed, WellFormed}
 use Rattle.form.specs.declared.Context.{Context}
 use Rattle.form.specs.declared.Words.{Words}
@@ -19,7 +19,7 @@ use Rattle.form.specs.declared.FieldType.{FieldType}
 use Rattle.form.specs.declared.FieldType.the-variants.{Text as T, Reference as Ref, Date as D, Integer as I, Number as N, Word as W}
 use Rattle.lines.specs.Meaning.{isText, isNumber, Means, none, aNumber, aWord, aDate, aText, Holds}
 use Rattle.loops.specs.Loops.{eqZ}
-use Rattle.reading.specs.Judging.{columnAt}
+use Rattle.walking.specs.Judging.{columnAt}
 use Rattle.columns.specs.Columns.{liesIn, rangeFits, integerFits, numberFits, wordFits, fieldFits, allZero, fieldsFit, rowFits}
 use Rattle.columns.specs.Records.{valueIn, valuesIn, recordIn}
 

@@ -15,18 +15,18 @@ use Rattle.text.proofs.Lists.{and-left, and-right}
 use Rattle.measure.specs.Signs.{below}
 use Rattle.form.specs.Values.{Value, number, word, text}
 use Rattle.form.specs.Layouts.{Layout, layoutOf, typesBy, typesOf}
-use Rattle.form.specs.Letters.{widthOf, widths, knownBy, isKind}
+use Rattle.layouts.specs.Letters.{widthOf, widths, knownBy, isKind}
 use Rattle.form.specs.Fits.{meaning, fits, fitsAll, fitsBy, wellFormed, WellFormed}
 use Rattle.form.specs.declared.Context.{Context}
 use Rattle.form.specs.declared.Words.{Words}
 use Rattle.form.specs.declared.FieldType.{FieldType}
 use Rattle.form.specs.declared.FieldType.the-variants.{Text as T, Reference as Ref, Date as D, Integer as I, Number as N, Word as W}
-use Rattle.form.proofs.KindLaws.{nine}
+use Rattle.layouts.proofs.KindLaws.{nine}
 use Rattle.lines.specs.Rows.{width}
 use Rattle.lines.specs.Meaning.{isText, Means, none, aNumber, aWord, aDate, aText, Holds}
 use Rattle.loops.specs.Loops.{eqZ}
-use Rattle.reading.specs.Judging.{columnAt}
-use Rattle.reading.specs.Names.{textAt}
+use Rattle.walking.specs.Judging.{columnAt}
+use Rattle.spans.specs.Texts.{textAt}
 use Rattle.columns.specs.Columns.{liesIn, rangeFits, integerFits, numberFits, wordFits, columnFits, allZero, fieldsFit, kindIn, rowFits}
 use Rattle.columns.specs.Records.{valueIn, valuesIn, recordIn}
 

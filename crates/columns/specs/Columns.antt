@@ -8,7 +8,7 @@ use lib.ListN.{length, drop}
 use Rattle.measure.specs.Limits.{largestLength, largestInteger}
 use Rattle.measure.specs.Signs.{below}
 use Rattle.form.specs.Values.{text}
-use Rattle.form.specs.Letters.{widthOf, isKind}
+use Rattle.layouts.specs.Letters.{widthOf, isKind}
 use Rattle.form.specs.Layouts.{typesOf}
 use Rattle.form.specs.Fits.{within, goodWord, fits}
 use Rattle.form.specs.declared.Rules.{Rules}
@@ -18,8 +18,8 @@ use Rattle.form.specs.declared.Limit.{Limit}
 use Rattle.form.specs.declared.FieldType.{FieldType}
 use Rattle.form.specs.declared.FieldType.the-variants.{Text as T, Reference as Ref, Date as D, Integer as I, Number as N, Word as W}
 use Rattle.loops.specs.Loops.{eqZ}
-use Rattle.reading.specs.Judging.{columnAt}
-use Rattle.reading.specs.Names.{textAt}
+use Rattle.walking.specs.Judging.{columnAt}
+use Rattle.spans.specs.Texts.{textAt}
 
 -- a start and a length, neither below zero, whose end is not past n bytes
 unfoldable pub liesIn : ℕ → ℤ → ℤ → Bool

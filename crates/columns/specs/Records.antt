@@ -3,13 +3,13 @@ use Prim.Native.Nat.{ℕ, _+_}
 use mathlib.Core.List.{List, [], _∷_}
 use lib.IntN.{ℤ, natAbs}
 use Rattle.form.specs.Values.{Value, number, word, text, Rec}
-use Rattle.form.specs.Letters.{widthOf}
+use Rattle.layouts.specs.Letters.{widthOf}
 use Rattle.form.specs.Layouts.{typesOf}
 use Rattle.form.specs.declared.Rules.{Rules}
 use Rattle.form.specs.declared.FieldType.{FieldType}
 use Rattle.form.specs.declared.FieldType.the-variants.{Text as T, Reference as Ref, Date as D, Integer as I, Number as N, Word as W}
-use Rattle.reading.specs.Judging.{columnAt}
-use Rattle.reading.specs.Names.{textAt}
+use Rattle.walking.specs.Judging.{columnAt}
+use Rattle.spans.specs.Texts.{textAt}
 use Rattle.columns.specs.Columns.{kindIn}
 
 -- the value in columns a and b; b counts for a text or a date only

@@ -15,7 +15,7 @@ ghost use Rattle.text.specs.Bytes.{allOf};
 ghost use Rattle.form.specs.Values.{text};
 ghost use Rattle.form.specs.Layouts.{typesOf};
 ghost use Rattle.form.specs.Fits.{textByte, isBoard, barred, fits};
-ghost use Rattle.reading.specs.Judging.{columnAt};
+ghost use Rattle.walking.specs.Judging.{columnAt};
 ghost use Rattle.columns.specs.Columns.{liesIn, wordFits, integerFits, numberFits, rangeFits, fieldFits, columnFits, allZero, fieldsFit, rowFits};
 
 // Whether a byte may stand in a text: it is permitted, and no quote.
@@ -68,7 +68,7 @@ fn holds_bytes(c: Context, t: FieldType, s: &[u8]) -> bool
     match t {
         FieldType::Text => is_text(s),
         FieldType::Reference => is_text(s) & !is_barred(c, s),
-        FieldType::Date => measure::read::is_date(s),
+        FieldType::Date => measuring::is_date(s),
         FieldType::Integer => false,
         FieldType::Number(_) => false,
         FieldType::Word(_) => false,
@@ -122,7 +122,7 @@ fn word_fits(v: Rules, l: Words, z: i64) -> bool
     if measure::is_below(z) {
         return false;
     }
-    let row = form::names::word_row(v, l, measure::magnitude(z));
+    let row = words::word_row(v, l, measure::magnitude(z));
     wording::padded_len(row) != 0
 }
 
@@ -181,15 +181,15 @@ fn fields_fit(c: Context, kind: u64, bytes: &[u8], row: [i64; WIDTH]) -> bool
     ensures { λ r. ⌜ r ≡ fieldsFit c (now (bytes .entry)) row (typesOf (c .rules) kind) 1 ⌝ }
 {
     let v = c.rules;
-    let n = form::layouts::field_count(v, kind);
+    let n = layouts::field_count(v, kind);
     let mut i = 0;
     let mut k = 1;
     while i < n {
-        let t = form::layouts::field_type(v, kind, i);
+        let t = layouts::field_type(v, kind, i);
         if !column_fits(c, t, bytes, row, k) {
             return false;
         }
-        k += form::layouts::width_of(t);
+        k += layouts::width_of(t);
         i += 1;
     }
     is_zero_from(row, k)
@@ -205,7 +205,7 @@ pub fn row_fits(c: Context, bytes: &[u8], row: [i64; WIDTH]) -> bool
         return false;
     }
     let kind = measure::magnitude(z);
-    if !form::layouts::is_kind(v, kind) {
+    if !layouts::is_kind(v, kind) {
         return false;
     }
     fields_fit(c, kind, bytes, row)

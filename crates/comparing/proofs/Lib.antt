@@ -1,4 +1,4 @@
-pub mod TextLaws
+pub mod IgnoringLaws
 pub mod RowLaws
 pub mod NextLaws
 pub mod ListLaws

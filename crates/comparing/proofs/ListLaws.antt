@@ -6,10 +6,11 @@ use mathlib.Core.Bool.{Bool, true, false, not, false≢true}
 use native.Mathlib.Omega.{arith}
 use borrow.Author.Tests.{not-true, not-false}
 use lib.ListN.{length}
-use Rattle.reading.specs.declared.Walk.{Walk}
-use Rattle.reading.specs.declared.Turn.{Turn}
-use Rattle.reading.specs.Walks.{limit, begun, Steady, isRow, traceAt}
-use Rattle.reading.proofs.WalkLaws.{going-start, going-end}
+use Rattle.walking.specs.declared.Walk.{Walk}
+use Rattle.walking.specs.declared.Turn.{Turn}
+use Rattle.records.specs.Answers.{limit}
+use Rattle.walking.specs.Walks.{begun, Steady, isRow, traceAt}
+use Rattle.walking.proofs.WalkLaws.{going-start, going-end}
 use Rattle.comparing.specs.declared.Ignored.{Ignored}
 use Rattle.comparing.specs.NextRows.{nextOf}
 use Rattle.comparing.specs.SameRows.{sameRow}

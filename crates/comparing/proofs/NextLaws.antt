@@ -8,12 +8,12 @@ use borrow.Author.Tests.{lt-ltb, le-ltb, ltb-true, ltb-false, not-true, not-fals
 use lib.Dec.{ltb}
 use lib.ListN.{length, drop, length-drop}
 use Rattle.text.proofs.LineLaws.{line-inside}
-use Rattle.reading.specs.declared.Found.{Found}
-use Rattle.reading.specs.declared.Found.the-variants.{Row, Nothing, Refused}
-use Rattle.reading.specs.declared.Walk.{Walk}
-use Rattle.reading.specs.declared.Turn.{Turn}
-use Rattle.reading.specs.Walks.{turnOf, Steady, isRow, traceBy, traceAt}
-use Rattle.reading.proofs.WalkLaws.{Going, going-trace, going-past, going-less, going-more, going-end}
+use Rattle.walking.specs.declared.Found.{Found}
+use Rattle.walking.specs.declared.Found.the-variants.{Row, Nothing, Refused}
+use Rattle.walking.specs.declared.Walk.{Walk}
+use Rattle.walking.specs.declared.Turn.{Turn}
+use Rattle.walking.specs.Walks.{turnOf, Steady, isRow, traceBy, traceAt}
+use Rattle.walking.proofs.WalkLaws.{Going, going-trace, going-past, going-less, going-more, going-end}
 use Rattle.comparing.specs.NextRows.{isFree, noneAt, nextIn, nextOf}
 use Rattle.comparing.specs.SameLists.{listIn}
 

@@ -14,19 +14,19 @@ use lib.ListN.{length, drop, drop-of-length-le}
 use lib.Seq.{drop-cons, drop-drop, getD-drop}
 use Rattle.form.specs.Fits.{meaning}
 use Rattle.form.specs.Layouts.{typesOf}
-use Rattle.form.specs.Letters.{widthOf, widths, typeAt}
+use Rattle.layouts.specs.Letters.{widthOf, widths, typeAt}
 use Rattle.form.specs.declared.Rules.the-variants.{Idf3}
 use Rattle.form.specs.declared.FieldType.{FieldType}
 use Rattle.form.specs.declared.FieldType.the-variants.{Text as T, Reference as Ref, Date as D, Integer as I, Number as N, Word as W}
-use Rattle.form.proofs.KindLaws.{seven, nine}
+use Rattle.layouts.proofs.KindLaws.{seven, nine}
 use Rattle.lines.specs.Rows.{width}
 use Rattle.loops.specs.Loops.{eqZ}
-use Rattle.reading.specs.Judging.{columnAt}
-use Rattle.reading.specs.Names.{textAt}
-use Rattle.reading.proofs.LineLaws.{column}
+use Rattle.walking.specs.Judging.{columnAt}
+use Rattle.spans.specs.Texts.{textAt, sameTexts}
+use Rattle.walking.proofs.LineLaws.{column}
 use Rattle.comparing.specs.declared.Ignored.{Ignored}
 use Rattle.comparing.specs.Ignoring.{ignoredAt}
-use Rattle.comparing.specs.SameRows.{sameTexts, holdsBytes, countsAs, sameField, agreesAt, sameFrom, sameFields, sameRow}
+use Rattle.comparing.specs.SameRows.{holdsBytes, countsAs, sameField, agreesAt, sameFrom, sameFields, sameRow}
 
 -- bytes count as themselves
 pub counts-itself : (t : FieldType) (s : List ℕ) → countsAs t s ≡ s

@@ -7,14 +7,14 @@ use native.Mathlib.Omega.{arith}
 use borrow.Author.Tests.{ltb-false, eq-eqb, ne-eqb}
 use lib.Dec.{ltb}
 use lib.ListN.{length}
-use Rattle.reading.specs.declared.Reply.{Reply}
-use Rattle.reading.specs.Walks.{limit}
+use Rattle.records.specs.declared.Reply.{Reply}
+use Rattle.records.specs.Answers.{limit, verdict}
 use Rattle.reading.specs.Replies.{checkReply}
 use Rattle.comparing.specs.declared.Ignored.{Ignored}
-use Rattle.comparing.specs.declared.Verdict.{Verdict}
+use Rattle.records.specs.declared.Verdict.{Verdict}
 use Rattle.comparing.specs.Ignoring.{nothing}
 use Rattle.comparing.specs.SameLists.{sameFiles}
-use Rattle.comparing.specs.Verdicts.{verdict, refusedAs, foundSame, sameReply}
+use Rattle.comparing.specs.Verdicts.{refusedAs, foundSame, sameReply}
 
 pub found-same : (b : Bool) → b ≡ true → verdict 0 0 1 0 ≡ foundSame b
 found-same b h = rw h

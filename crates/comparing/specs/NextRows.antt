@@ -4,12 +4,12 @@ use mathlib.Core.List.{List}
 use mathlib.Core.Bool.{Bool, true, false, cond}
 use lib.Dec.{ltb}
 use lib.ListN.{length}
-use Rattle.reading.specs.declared.Found.{Found}
-use Rattle.reading.specs.declared.Found.the-variants.{Row, Nothing, Refused}
-use Rattle.reading.specs.declared.Walk.{Walk}
-use Rattle.reading.specs.declared.Turn.{Turn}
-use Rattle.reading.specs.Judging.{noRow}
-use Rattle.reading.specs.Walks.{turnOf}
+use Rattle.walking.specs.declared.Found.{Found}
+use Rattle.walking.specs.declared.Found.the-variants.{Row, Nothing, Refused}
+use Rattle.walking.specs.declared.Walk.{Walk}
+use Rattle.walking.specs.declared.Turn.{Turn}
+use Rattle.walking.specs.Judging.{noRow}
+use Rattle.walking.specs.Walks.{turnOf}
 
 -- a comment or blank line
 abbrev pub isFree : Found → Bool

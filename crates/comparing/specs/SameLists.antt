@@ -3,8 +3,8 @@ use mathlib.Core.List.{List, [], _∷_}
 use Prim.Native.Nat.{ℕ}
 use mathlib.Core.Bool.{Bool, true, false, _&&_}
 use lib.IntN.{ℤ}
-use Rattle.reading.specs.declared.Turn.{Turn}
-use Rattle.reading.specs.Walks.{isRow, Trace, done, stop, skip, row, traceOf}
+use Rattle.walking.specs.declared.Turn.{Turn}
+use Rattle.walking.specs.Walks.{isRow, Trace, done, stop, skip, row, traceOf}
 use Rattle.comparing.specs.SameRows.{sameRow}
 use Rattle.comparing.specs.declared.Ignored.{Ignored}
 

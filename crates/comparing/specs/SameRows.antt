@@ -7,19 +7,15 @@ use lib.ListN.{drop}
 use Rattle.form.specs.Compare.{sameBytes}
 use Rattle.form.specs.Fits.{meaning}
 use Rattle.form.specs.Layouts.{typesOf}
-use Rattle.form.specs.Letters.{widthOf}
+use Rattle.layouts.specs.Letters.{widthOf}
 use Rattle.form.specs.declared.Rules.the-variants.{Idf3}
 use Rattle.form.specs.declared.FieldType.{FieldType}
 use Rattle.form.specs.declared.FieldType.the-variants.{Text as T, Reference as Ref, Date as D, Integer as I, Number as N, Word as W}
 use Rattle.loops.specs.Loops.{eqZ}
-use Rattle.reading.specs.Judging.{columnAt}
-use Rattle.reading.specs.Names.{textAt}
+use Rattle.walking.specs.Judging.{columnAt}
+use Rattle.spans.specs.Texts.{textAt}
 use Rattle.comparing.specs.Ignoring.{ignoredAt}
 use Rattle.comparing.specs.declared.Ignored.{Ignored}
-
--- texts of two files, each by its start and length
-unfoldable pub sameTexts : List ℕ → ℤ → ℤ → List ℕ → ℤ → ℤ → Bool
-sameTexts f a l h b m = sameBytes (textAt f a l) (textAt h b m)
 
 -- fields that are held as bytes of the file; all others are held in the row itself
 abbrev pub holdsBytes : FieldType → Bool

@@ -3,14 +3,12 @@ use Prim.Native.Nat.{ℕ}
 use mathlib.Core.List.{List}
 use mathlib.Core.Bool.{Bool, cond}
 use lib.Dec.{eqb}
-use Rattle.reading.specs.declared.Reply.{Reply}
+use Rattle.records.specs.declared.Reply.{Reply}
 use Rattle.reading.specs.Replies.{checkReply}
 use Rattle.comparing.specs.Ignoring.{nothing}
 use Rattle.comparing.specs.SameLists.{sameFiles}
-use Rattle.comparing.specs.declared.Verdict.{Verdict}
-
-abbrev pub verdict : ℕ → ℕ → ℕ → ℕ → Verdict
-verdict number line count which = record { number = number; line = line; count = count; which = which }
+use Rattle.records.specs.declared.Verdict.{Verdict}
+use Rattle.records.specs.Answers.{verdict}
 
 -- a file's own refusal, and which file it is
 abbrev pub refusedAs : Reply → ℕ → Verdict

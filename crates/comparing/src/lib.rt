@@ -2,19 +2,12 @@
 pub mod lists;
 pub mod rows;
 
-use reading::Reply;
 use reading::whole;
+use records::Reply;
+use records::Verdict;
 ghost use mathlib.Core.Path.{_≡_};
 ghost use Rattle.comparing.specs.Ignoring.{nothing};
 ghost use Rattle.comparing.specs.Verdicts.{refusedAs, foundSame, sameReply};
-
-// What an operation on two files answers: a reply, and which of them was refused, 0 if neither.
-pub struct Verdict {
-    pub number: u64,
-    pub line: u64,
-    pub count: u64,
-    pub which: u64,
-}
 
 // How many fields a record has at most.
 pub const FIELDS: usize = 7;

@@ -2,15 +2,16 @@
 use crate::Ignored;
 use crate::rows;
 use lines::WIDTH;
-use reading::Found;
-use reading::Turn;
-use reading::Walk;
-use reading::walking;
+use walking::Found;
+use walking::Turn;
+use walking::Walk;
+use walking::steps;
 ghost use mathlib.Core.Path.{_≡_};
 ghost use mathlib.Core.Bool.{not};
 ghost use Prim.Native.Nat.{_≤_};
 ghost use lib.ListN.{length};
-ghost use Rattle.reading.specs.Walks.{limit, Steady, isRow};
+ghost use Rattle.records.specs.Answers.{limit};
+ghost use Rattle.walking.specs.Walks.{Steady, isRow};
 ghost use Rattle.comparing.specs.NextRows.{isFree, noneAt, nextOf};
 ghost use Rattle.comparing.specs.SameLists.{rowsMeet, sameFiles};
 
@@ -44,7 +45,7 @@ fn next_row(file: &[u8], from: Walk) -> Turn
     let mut w = from;
     let mut at = from.at;
     while at < file.len() {
-        let t = walking::turn(file, w);
+        let t = steps::turn(file, w);
         let found = t.found;
         if !is_free(found) {
             return t;
@@ -60,7 +61,7 @@ fn is_over(t: Turn) -> bool
     ensures { λ r. ⌜ r ≡ not (isRow (t .found)) ⌝ }
 {
     let found = t.found;
-    !walking::is_row(found)
+    !steps::is_row(found)
 }
 
 // Whether the second file has a record too, the same as the first's.
@@ -70,7 +71,7 @@ fn meets(g: Ignored, first: &[u8], p: Turn, second: &[u8], q: Turn) -> bool
     let found = q.found;
     let x = p.row;
     let y = q.row;
-    if walking::is_row(found) {
+    if steps::is_row(found) {
         return rows::same_row(g, first, x, second, y);
     }
     false
@@ -81,8 +82,8 @@ pub fn same_lists(g: Ignored, first: &[u8], second: &[u8]) -> bool
     requires { ⌜ (length (now first) ≤ limit) × (length (now second) ≤ limit) ⌝ }
     ensures { λ r. ⌜ r ≡ sameFiles g (now (first .entry)) (now (second .entry)) ⌝ }
 {
-    let mut v = walking::begin();
-    let mut w = walking::begin();
+    let mut v = steps::begin();
+    let mut w = steps::begin();
     let mut at = 0;
     while at < first.len() {
         let p = next_row(first, v);

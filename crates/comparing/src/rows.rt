@@ -4,44 +4,12 @@ use form::FieldType;
 use form::Rules;
 use lines::WIDTH;
 ghost use mathlib.Core.Path.{_≡_};
-ghost use Prim.Native.Nat.{_+_, _≤_, _<_, min};
-ghost use lib.IntN.{natAbs};
-ghost use lib.ListN.{length, take, drop};
-ghost use Rattle.form.specs.Compare.{sameBytes};
-ghost use Rattle.form.specs.Letters.{widthOf};
+ghost use Prim.Native.Nat.{_+_, _≤_, _<_};
+ghost use lib.ListN.{drop};
+ghost use Rattle.layouts.specs.Letters.{widthOf};
 ghost use Rattle.lines.specs.Rows.{width};
 ghost use Rattle.comparing.specs.Ignoring.{mostFields, ignoredAt};
-ghost use Rattle.comparing.specs.SameRows.{sameTexts, holdsBytes, sameField, agreesAt, sameFields, sameRow};
-
-// A column as a place: no more than a largest one.
-fn at_most(z: i64, most: usize) -> usize
-    ensures { λ r. ⌜ r ≡ min (natAbs z) most ⌝ }
-{
-    let n = measure::magnitude(z) as usize;
-    if n < most {
-        return n;
-    }
-    most
-}
-
-// Whether parts of two files are the same, each by its start and length.
-fn same_parts(first: &[u8], a: usize, n: usize, second: &[u8], b: usize, m: usize) -> bool
-    requires { ⌜ (a + n ≤ length (now first)) × (b + m ≤ length (now second)) ⌝ }
-    ensures { λ r. ⌜ r ≡ sameBytes (take n (drop a (now (first .entry)))) (take m (drop b (now (second .entry)))) ⌝ }
-{
-    fields::same(&first[a..a + n], &second[b..b + m])
-}
-
-// Whether texts of two files are the same, each by its start and length; what lies past a file's end is left off.
-fn same_texts(first: &[u8], start: i64, len: i64, second: &[u8], other: i64, size: i64) -> bool
-    ensures { λ r. ⌜ r ≡ sameTexts (now (first .entry)) start len (now (second .entry)) other size ⌝ }
-{
-    let a = at_most(start, first.len());
-    let n = at_most(len, first.len() - a);
-    let b = at_most(other, second.len());
-    let m = at_most(size, second.len() - b);
-    same_parts(first, a, n, second, b, m)
-}
+ghost use Rattle.comparing.specs.SameRows.{holdsBytes, sameField, agreesAt, sameFields, sameRow};
 
 // Whether a field of a type is held as bytes of its file; all others are held in the row itself.
 fn holds_bytes(t: FieldType) -> bool
@@ -70,7 +38,7 @@ fn same_field(
     ensures { λ r. ⌜ r ≡ sameField t (now (first .entry)) (drop at x) (now (second .entry)) (drop at y) ⌝ }
 {
     if holds_bytes(t) {
-        return same_texts(first, x[at], x[at + 1], second, y[at], y[at + 1]);
+        return spans::same_texts(first, x[at], x[at + 1], second, y[at], y[at + 1]);
     }
     loops::same(x[at], y[at])
 }
@@ -119,15 +87,15 @@ fn same_fields(
 ) -> bool
     ensures { λ r. ⌜ r ≡ sameFields g kind (now (first .entry)) x (now (second .entry)) y ⌝ }
 {
-    let n = form::layouts::field_count(Rules::Idf3, kind);
+    let n = layouts::field_count(Rules::Idf3, kind);
     let mut at = 1;
     let mut i = 0;
     while i < n {
-        let t = form::layouts::field_type(Rules::Idf3, kind, i);
+        let t = layouts::field_type(Rules::Idf3, kind, i);
         if !agrees_at(g, kind, i, t, first, x, second, y, at) {
             return false;
         }
-        at += form::layouts::width_of(t);
+        at += layouts::width_of(t);
         i += 1;
     }
     true

@@ -13,18 +13,16 @@ use Rattle.form.specs.Values.{Rec}
 use Rattle.form.specs.declared.Rules.the-variants.{Idf3}
 use Rattle.lines.specs.Rows.{width}
 use Rattle.permitted.specs.ListRules.{Permitted, Distinct}
-use Rattle.reading.specs.Walks.{limit}
-use Rattle.reading.specs.Replies.{reply, checkReply, rowsOf}
-use Rattle.reading.specs.declared.Reply.{Reply}
+use Rattle.records.specs.Answers.{limit, verdict, reply}
+use Rattle.reading.specs.Replies.{checkReply, rowsOf}
+use Rattle.records.specs.declared.Reply.{Reply}
 use Rattle.reading.proofs.RowLaws as reads
 use Rattle.writing.specs.Outcomes.{writeReply, writeText}
-use Rattle.comparing.specs.declared.Verdict as compared
+use Rattle.records.specs.declared.Verdict.{Verdict}
 use Rattle.comparing.specs.Ignoring.{nothing}
 use Rattle.comparing.specs.SameLists.{sameFiles}
-use Rattle.comparing.specs.Verdicts.{foundSame, sameReply, verdict}
+use Rattle.comparing.specs.Verdicts.{foundSame, sameReply}
 use Rattle.comparing.proofs.VerdictLaws.{first-refused, second-refused}
-use Rattle.judging.specs.declared.Verdict as judging
-use Rattle.judging.specs.Verdicts as says
 use Rattle.files.specs.WholeRules.{FileSays}
 use Rattle.files.specs.Outcomes.{RowsMean}
 use Rattle.files.proofs.WholeFiles as files
@@ -46,8 +44,8 @@ use Rattle.demands.proofs.Answers.{check-answers, answered-one, answere
 abbrev numbered : Reply → ℕ
 numbered r = r .number
 
-counted : {v w : compared.Verdict} → v ≡ w → v .count ≡ w .count
-counted e = ap (λ (u : compared.Verdict). u .count) e
+counted : {v w : Verdict} → v ≡ w → v .count ≡ w .count
+counted e = ap (λ (u : Verdict). u .count) e
 
 two : {n : ℕ} → n ≡ 0 → n ≡ 1 → ⊥
 two a b = omega arith
@@ -175,7 +173,7 @@ too-early {file} {ls} {r} c h m = ((λ z. answered-early m (every-file c) z .0, 
     ends s = ap numbered (c .answer ∙ check-early file h .1 (rw (lines-complete m) s))
 
 -- "Two accepted files are the same exactly when their lists are equal": 1 where they are, 0 where they are not, and neither is refused
-pub same-iff : {first second : List ℕ} {rs qs : List Rec} {v : compared.Verdict} → Compares first second v → length first ≤ limit → length second ≤ limit
+pub same-iff : {first second : List ℕ} {rs qs : List Rec} {v : Verdict} → Compares first second v → length first ≤ limit → length second ≤ limit
     → FileSays Idf3 rs first → FileSays Idf3 qs second
     → ((v ≡ verdict 0 0 1 0) ↔ (rs ≡ qs)) × ((v ≡ verdict 0 0 0 0) ↔ (rs ≡ qs → ⊥))
 unfolding sameReply
@@ -186,7 +184,7 @@ same-iff {first} {second} {rs} {qs} {v} c h i s t = go (sameFiles nothing first 
     go false e w = ((λ x. w .0 (counted x), λ x. absurd (two (counted e) (w .1 x))), (λ x y. two (counted x) (w .1 y), λ d. e))
 
 -- a refused file is named, 1 the first and 2 the second, with its own number and line
-pub same-refused : {first second : List ℕ} {c d : Reply} {v : compared.Verdict} → Compares first second v → Checks first c → Checks second d
+pub same-refused : {first second : List ℕ} {c d : Reply} {v : Verdict} → Compares first second v → Checks first c → Checks second d
     → ((c .number ≡ 0 → ⊥) → v ≡ verdict (c .number) (c .line) 0 1) × (c .number ≡ 0 → (d .number ≡ 0 → ⊥) → v ≡ verdict (d .number) (d .line) 0 2)
 same-refused {first} {second} {c} {d} o a b = (
   λ h. o .answer ∙ sym (first-refused first second c (a .answer) (verdict (c .number) (c .line) 0 1) h refl),
@@ -196,14 +194,14 @@ same-refused {first} {second} {c} {d} o a b = (
 -- Judging
 
 -- the verdict on two accepted files is the one that the rules over their lists give
-pub judged : {board library : List ℕ} {rs qs : List Rec} {v : judging.Verdict} → length board ≤ limit → length library ≤ limit → FileSays Idf3 rs board → FileSays Idf3 qs library
+pub judged : {board library : List ℕ} {rs qs : List Rec} {v : Verdict} → length board ≤ limit → length library ≤ limit → FileSays Idf3 rs board → FileSays Idf3 qs library
     → Judges board library v ↔ Judged rs qs v
 judged {board} {library} {v = v} h i s u = let w = entries.judged-exactly board library h i s u v in (λ e. w .0 (sym (e .answer)), λ j. record { answer = sym (w .1 j) })
 
 -- a refused file is named as in comparing
-pub judge-refused : {board library : List ℕ} {c d : Reply} {v : judging.Verdict} → Judges board library v → Checks board c → Checks library d
-    → ((c .number ≡ 0 → ⊥) → v ≡ says.verdict (c .number) (c .line) (c .count) 1)
-    × (c .number ≡ 0 → (d .number ≡ 0 → ⊥) → v ≡ says.verdict (d .number) (d .line) (d .count) 2)
+pub judge-refused : {board library : List ℕ} {c d : Reply} {v : Verdict} → Judges board library v → Checks board c → Checks library d
+    → ((c .number ≡ 0 → ⊥) → v ≡ verdict (c .number) (c .line) (c .count) 1)
+    × (c .number ≡ 0 → (d .number ≡ 0 → ⊥) → v ≡ verdict (d .number) (d .line) (d .count) 2)
 judge-refused {board} {library} {c} {d} o a b = (
   λ h. rw (a .answer) (o .answer ∙ entries.judged-first board library (λ z. h (ap numbered (a .answer) ∙ z))),
   λ h i. rw (b .answer) (o .answer ∙ entries.judged-second board library (sym (ap numbered (a .answer)) ∙ h) (λ z. i (ap numbered (b .answer) ∙ z))),

@@ -6,8 +6,8 @@ use mathlib.Core.List.{List, [], _∷_, _++_}
 use native.Mathlib.Omega.{arith}
 use lib.ListN.{length, replicate, length-replicate}
 use Rattle.text.specs.Bytes.{permitted, allOf, begins, ascii}
-use Rattle.text.specs.FirstField.{span, endsWell, bareAt, closedAt, quotedAt, fieldAt, fieldOf}
-use Rattle.text.specs.Fields.{fieldsIn, fieldsOf}
+use Rattle.cutting.specs.FirstField.{span, endsWell, bareAt, closedAt, quotedAt, fieldAt, fieldOf}
+use Rattle.cutting.specs.Fields.{fieldsIn, fieldsOf}
 use Rattle.text.specs.Lines.{endLen, contentLen, lineEnd, linesOf}
 use Rattle.text.proofs.LineSpelling.{lines-sound}
 use Rattle.measure.specs.Numbers.{digitHere, judge, decimals, whole, body, readNumber}
@@ -21,7 +21,7 @@ use Rattle.form.specs.Compare.{sameBytes, folded, wordKey, sameWord, placeOf, w
 use Rattle.form.specs.Sections.{sections}
 use Rattle.form.specs.Kinds.{kindAt, sectionOf, lineOf, roleOf}
 use Rattle.form.specs.Layouts.{layoutOf, typesOf}
-use Rattle.form.specs.Letters.{isKind}
+use Rattle.layouts.specs.Letters.{isKind}
 use Rattle.form.specs.Fits.{kept, within, beyond, meaning, barred, isEmpty, goodText, fits}
 use Rattle.form.specs.Reading.{readField, lineAs, keyFrom, keywordOf}
 use Rattle.form.specs.declared.Rules.the-variants.{Idf3}
@@ -34,10 +34,12 @@ use Rattle.records.specs.Marks.{shapeOf, manyLoops}
 use Rattle.records.specs.Stages.{mayOpen, after}
 use Rattle.records.specs.Places.{dataKind, keyKind}
 use Rattle.records.specs.Automaton.{mayStand, moved, stepped}
-use Rattle.reading.specs.Judging.{filledBy, ofKind, dataBy, judged}
-use Rattle.reading.specs.Walks.{limit, lineIn, turnOf, traceIn, traceAt}
-use Rattle.reading.specs.Names.{sameText, sameNames, usedIn, repeatIn}
-use Rattle.reading.specs.Replies.{reply, endedBy, surveyed, rowsIn, rowsOf, checkReply, readReply}
+use Rattle.walking.specs.Judging.{filledBy, ofKind, dataBy, judged}
+use Rattle.records.specs.Answers.{limit, reply, verdict}
+use Rattle.walking.specs.Walks.{lineIn, turnOf, traceIn, traceAt}
+use Rattle.spans.specs.Texts.{textIs, sameTexts}
+use Rattle.naming.specs.Names.{sameNames, usedIn, repeatIn}
+use Rattle.reading.specs.Replies.{endedBy, surveyed, rowsIn, rowsOf, checkReply, readReply}
 use Rattle.columns.specs.Columns.{liesIn, rangeFits, integerFits, numberFits, wordFits, allZero, fieldsFit, rowFits}
 use Rattle.columns.specs.Records.{valuesIn}
 use Rattle.setting.specs.LineText.{lineText}
@@ -47,12 +49,11 @@ use Rattle.writing.specs.Outcomes.{textOf, writeReply, writeText}
 use Rattle.comparing.specs.Ignoring.{ignoredAt}
 use Rattle.comparing.specs.SameRows.{sameField, agreesAt, sameFrom, sameRow}
 use Rattle.comparing.specs.SameLists.{listIn, sameLists}
-use Rattle.comparing.specs.Verdicts as same
 use Rattle.comparing.specs.Verdicts.{sameReply}
 use Rattle.judging.specs.Entries as entries
 use Rattle.judging.specs.Verdicts as judging
 use Rattle.judging.specs.Verdicts.{judgeReply}
-use Rattle.reading.specs.declared.Reply.{Reply}
+use Rattle.records.specs.declared.Reply.{Reply}
 use Rattle.files.specs.WholeRules.{FileSays}
 use Rattle.files.proofs.Checked.{check-large}
 use Rattle.written.specs.Texts.{canonicalText, RowsSay}
@@ -123,13 +124,13 @@ pub answers :
     × (checkReply entry ≡ reply 0 0 8)
     × (readReply library 29 ≡ reply 2 0 3)
     × (readReply library 32 ≡ reply 0 0 3)
-    × (sameReply library other-words ≡ same.verdict 0 0 1 0)
-    × (sameReply library other-list ≡ same.verdict 0 0 0 0)
-    × (judgeReply board entry ≡ judging.verdict 0 0 1 0)
-    × (judgeReply board library ≡ judging.verdict 16 0 1 1)
-    × (judgeReply library entry ≡ judging.verdict 17 0 0 1)
-    × (judgeReply board board ≡ judging.verdict 17 0 0 2)
-unfolding judgeReply judging.withLibrary judging.matched judging.placed judging.placedFrom judging.typeOf judging.typeFrom entries.lacksEntry entries.hasEntry entries.entryIn entries.refers entries.sameEntry entries.sameIn entries.textIs sameReply sameLists sameRow sameFrom agreesAt sameField ignoredAt listIn readReply checkReply surveyed endedBy repeatIn usedIn sameNames sameText rowsIn traceAt traceIn turnOf lineIn judged ofKind dataBy filledBy kindOf filled fillFrom entryAt lineEnd contentLen endLen lineAs begins allOf permitted fieldsOf fieldsIn fieldOf fieldAt bareAt closedAt quotedAt endsWell span keywordOf keyFrom folded sameBytes sameWord wordKey placeOf wordsOf sections sectionNames kindAt sectionOf lineOf roleOf layoutOf typesOf keyKind dataKind mayStand mayOpen after moved stepped shapeOf manyLoops loopAfter eqZ meaning barred kept within beyond readField readNumber body whole decimals judge digitHere readInteger unsigned digits isDate fitsIn isTwo datePieces
+    × (sameReply library other-words ≡ verdict 0 0 1 0)
+    × (sameReply library other-list ≡ verdict 0 0 0 0)
+    × (judgeReply board entry ≡ verdict 0 0 1 0)
+    × (judgeReply board library ≡ verdict 16 0 1 1)
+    × (judgeReply library entry ≡ verdict 17 0 0 1)
+    × (judgeReply board board ≡ verdict 17 0 0 2)
+unfolding judgeReply judging.withLibrary judging.matched judging.placed judging.placedFrom judging.typeOf judging.typeFrom entries.lacksEntry entries.hasEntry entries.entryIn entries.refers sameNames sameTexts textIs sameReply sameLists sameRow sameFrom agreesAt sameField ignoredAt listIn readReply checkReply surveyed endedBy repeatIn usedIn rowsIn traceAt traceIn turnOf lineIn judged ofKind dataBy filledBy kindOf filled fillFrom entryAt lineEnd contentLen endLen lineAs begins allOf permitted fieldsOf fieldsIn fieldOf fieldAt bareAt closedAt quotedAt endsWell span keywordOf keyFrom folded sameBytes sameWord wordKey placeOf wordsOf sections sectionNames kindAt sectionOf lineOf roleOf layoutOf typesOf keyKind dataKind mayStand mayOpen after moved stepped shapeOf manyLoops loopAfter eqZ meaning barred kept within beyond readField readNumber body whole decimals judge digitHere readInteger unsigned digits isDate fitsIn isTwo datePieces
 answers = (refl, refl, refl, refl, refl, refl, refl, refl, refl, refl, refl, refl, refl, refl, refl, refl)
 
 -- the rows of a file, written over its bytes: enough room, too little; no rows
@@ -138,7 +139,7 @@ pub written :
     × (writeReply (rowsOf library) library 60 ≡ reply 14 0 61)
     × (writeReply [] library 60 ≡ reply 15 0 0)
     × (writeText (rowsOf other-words) other-words (replicate 61 46) ≡ library)
-unfolding writeReply writeText textOf lineText canonicalRecord canonicalLine canonicalFields canonicalField canonical.written joined needsQuotes isEmpty printed signOf magnitudeOf numeralOf decimalsOf wordAt isKind wholeRows chunks writable carries rowStep twice namedIn namesIt sameNames sameText rowFits fieldsFit allZero rangeFits liesIn integerFits numberFits wordFits fits goodText valuesIn rowsIn traceAt traceIn turnOf lineIn judged ofKind dataBy filledBy kindOf filled fillFrom entryAt lineEnd contentLen endLen lineAs begins allOf permitted fieldsOf fieldsIn fieldOf fieldAt bareAt closedAt quotedAt endsWell span keywordOf keyFrom folded sameBytes sameWord wordKey placeOf wordsOf sections sectionNames kindAt sectionOf lineOf roleOf layoutOf typesOf keyKind dataKind mayStand mayOpen after moved stepped shapeOf manyLoops loopAfter eqZ meaning barred kept within beyond readField readNumber body whole decimals judge digitHere readInteger unsigned digits isDate fitsIn isTwo datePieces
+unfolding writeReply writeText textOf lineText canonicalRecord canonicalLine canonicalFields canonicalField canonical.written joined needsQuotes isEmpty printed signOf magnitudeOf numeralOf decimalsOf wordAt isKind wholeRows chunks writable carries rowStep twice namedIn namesIt sameNames sameTexts rowFits fieldsFit allZero rangeFits liesIn integerFits numberFits wordFits fits goodText valuesIn rowsIn traceAt traceIn turnOf lineIn judged ofKind dataBy filledBy kindOf filled fillFrom entryAt lineEnd contentLen endLen lineAs begins allOf permitted fieldsOf fieldsIn fieldOf fieldAt bareAt closedAt quotedAt endsWell span keywordOf keyFrom folded sameBytes sameWord wordKey placeOf wordsOf sections sectionNames kindAt sectionOf lineOf roleOf layoutOf typesOf keyKind dataKind mayStand mayOpen after moved stepped shapeOf manyLoops loopAfter eqZ meaning barred kept within beyond readField readNumber body whole decimals judge digitHere readInteger unsigned digits isDate fitsIn isTwo datePieces
 written = (refl, refl, refl, refl)
 
 -- so they meet the premises
@@ -156,7 +157,7 @@ library-says = listed library (answers .0) (omega arith)
 pub other-says : FileSays Idf3 (library-says .0) other-words
 other-says =
     let o = listed other-words (answers .1) (omega arith) in
-    let e = same-iff {v = same.verdict 0 0 1 0} (record { answer = sym (answers .10) }) (omega arith) (omega arith) (library-says .1) (o .1) .0 .0 refl in
+    let e = same-iff {v = verdict 0 0 1 0} (record { answer = sym (answers .10) }) (omega arith) (omega arith) (library-says .1) (o .1) .0 .0 refl in
     subst (λ (rs : List Rec). FileSays Idf3 rs other-words) (sym e) (o .1)
 
 pub board-says : (rs : List Rec) × FileSays Idf3 rs board
@@ -190,7 +191,7 @@ pub nothing-said : (rs : List Rec) → RowsSay library rs [] → ⊥
 nothing-said rs s = unwritable-iff [] library 60 .0 (ap (λ (r : Reply). r .number) (written .2)) (rs, s)
 
 -- a board that is served, and one that lacks an entry
-pub board-judged : Judged (board-says .0) (entry-says .0) (judging.verdict 0 0 1 0) × Judged (board-says .0) (library-says .0) (judging.verdict 16 0 1 1)
+pub board-judged : Judged (board-says .0) (entry-says .0) (verdict 0 0 1 0) × Judged (board-says .0) (library-says .0) (verdict 16 0 1 1)
 board-judged = (
   judged-iff (omega arith) (omega arith) (board-says .1) (entry-says .1) .0 (record { answer = sym (answers .12) }),
   judged-iff (omega arith) (omega arith) (board-says .1) (library-says .1) .0 (record { answer = sym (answers .13) }),

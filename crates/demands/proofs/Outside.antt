@@ -5,14 +5,13 @@ use denote.Triple.Clauses.{AtExit}
 use denote.Ref.{now}
 use borrow.Fn.Kinds.{Dens, resT, endedOf}
 use lib.ListN.{length}
-use Rattle.reading.specs.declared.Reply.{Reply}
+use Rattle.records.specs.declared.Reply.{Reply}
 use Rattle.reading.specs.Replies.{checkReply, readReply}
 use Rattle.writing.specs.Outcomes.{writeReply}
-use Rattle.comparing.specs.declared.Verdict as compared
+use Rattle.records.specs.declared.Verdict.{Verdict}
 use Rattle.comparing.specs.Verdicts.{sameReply}
-use Rattle.judging.specs.declared.Verdict as judged
 use Rattle.judging.specs.Verdicts.{judgeReply}
-use Rattle.quayladle.specs.Numbers.{ofOne, ofSame, ofJudged}
+use Rattle.quayladle.specs.Numbers.{ofOne, ofTwo}
 use Rattle.quayladle.proofs.quayladle_check.Kinds as check
 use Rattle.quayladle.proofs.quayladle_check.Reads as check-says
 use Rattle.quayladle.proofs.quayladle_read.Kinds as read
@@ -42,10 +41,10 @@ outside-write κs a r s e = (writeReply (now (a .0)) (now (a .1 .0)) (length (no
 
 pub outside-same : (κs : Lfts 3) (a : Dens κs same.ps) (r : resT same.r κs .Denot) (s : AtExit (endedOf 3 same.ps same.r) κs)
     → same-says.Learnt κs a r s
-    → (v : compared.Verdict) × Compares (now (a .0)) (now (a .1 .0)) v × (now (s .1 .1 .0) ≡ ofSame v)
+    → (v : Verdict) × Compares (now (a .0)) (now (a .1 .0)) v × (now (s .1 .1 .0) ≡ ofTwo v)
 outside-same κs a r s e = (sameReply (now (a .0)) (now (a .1 .0)), record { answer = refl }, e)
 
 pub outside-judge : (κs : Lfts 3) (a : Dens κs judge.ps) (r : resT judge.r κs .Denot) (s : AtExit (endedOf 3 judge.ps judge.r) κs)
     → judge-says.Learnt κs a r s
-    → (v : judged.Verdict) × Judges (now (a .0)) (now (a .1 .0)) v × (now (s .1 .1 .0) ≡ ofJudged v)
+    → (v : Verdict) × Judges (now (a .0)) (now (a .1 .0)) v × (now (s .1 .1 .0) ≡ ofTwo v)
 outside-judge κs a r s e = (judgeReply (now (a .0)) (now (a .1 .0)), record { answer = refl }, e)

@@ -5,8 +5,8 @@ use mathlib.Core.List.{[], _∷_, _++_}
 use mathlib.Core.Bool.{false}
 use lib.IntN.{pos, negsuc}
 use Rattle.text.specs.Bytes.{permitted, allOf, begins, field, ascii}
-use Rattle.text.specs.FirstField.{span, endsWell, bareAt, fieldAt, fieldOf}
-use Rattle.text.specs.Fields.{fieldsIn, fieldsOf}
+use Rattle.cutting.specs.FirstField.{span, endsWell, bareAt, fieldAt, fieldOf}
+use Rattle.cutting.specs.Fields.{fieldsIn, fieldsOf}
 use Rattle.text.specs.Lines.{endLen, contentLen, lineEnd}
 use Rattle.measure.specs.Limits.{largestLength}
 use Rattle.measure.specs.Numbers.{digitHere, judge, decimals, whole, body, readNumber}
@@ -32,10 +32,11 @@ use Rattle.records.specs.Marks.{shapeOf}
 use Rattle.records.specs.Stages.{mayOpen}
 use Rattle.records.specs.Places.{dataKind, keyKind}
 use Rattle.records.specs.Automaton.{mayStand, moved, stepped}
-use Rattle.reading.specs.Judging.{filledBy, ofKind, dataBy, judged}
-use Rattle.reading.specs.Walks.{lineIn, turnOf, traceIn, traceAt}
-use Rattle.reading.specs.Names.{repeatIn}
-use Rattle.reading.specs.Replies.{reply, endedBy, surveyed, checkReply}
+use Rattle.walking.specs.Judging.{filledBy, ofKind, dataBy, judged}
+use Rattle.walking.specs.Walks.{lineIn, turnOf, traceIn, traceAt}
+use Rattle.naming.specs.Names.{repeatIn}
+use Rattle.records.specs.Answers.{reply}
+use Rattle.reading.specs.Replies.{endedBy, surveyed, checkReply}
 
 -- a bare field where a length stands, and where the angle of a point stands: its count, or the number of its refusal
 abbrev length : String → Reply Value

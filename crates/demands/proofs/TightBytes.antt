@@ -10,12 +10,12 @@ use Rattle.text.proofs.line_end.Kinds as text-line-end
 use Rattle.text.proofs.line_end.Reads as text-line-end-says
 use Rattle.text.proofs.begins_with.Kinds as text-begins-with
 use Rattle.text.proofs.begins_with.Reads as text-begins-with-says
-use Rattle.text.proofs.look.Kinds as text-look
-use Rattle.text.proofs.look.Reads as text-look-says
-use Rattle.text.proofs.field.Kinds as text-field
-use Rattle.text.proofs.field.Reads as text-field-says
-use Rattle.text.proofs.count_fields.Kinds as text-count-fields
-use Rattle.text.proofs.count_fields.Reads as text-count-fields-says
+use Rattle.cutting.proofs.look.Kinds as cutting-look
+use Rattle.cutting.proofs.look.Reads as cutting-look-says
+use Rattle.cutting.proofs.field.Kinds as cutting-field
+use Rattle.cutting.proofs.field.Reads as cutting-field-says
+use Rattle.cutting.proofs.count_fields.Kinds as cutting-count-fields
+use Rattle.cutting.proofs.count_fields.Reads as cutting-count-fields-says
 use Rattle.measure.proofs.magnitude.Kinds as measure-magnitude
 use Rattle.measure.proofs.magnitude.Reads as measure-magnitude-says
 use Rattle.measure.proofs.is_below.Kinds as measure-is-below
@@ -28,12 +28,12 @@ use Rattle.measure.proofs.Angle.included.Kinds as measure-Angle-included
 use Rattle.measure.proofs.Angle.included.Reads as measure-Angle-included-says
 use Rattle.measure.proofs.Integer.new.Kinds as measure-Integer-new
 use Rattle.measure.proofs.Integer.new.Reads as measure-Integer-new-says
-use Rattle.measure.proofs.read.number.Kinds as measure-read-number
-use Rattle.measure.proofs.read.number.Reads as measure-read-number-says
-use Rattle.measure.proofs.read.integer.Kinds as measure-read-integer
-use Rattle.measure.proofs.read.integer.Reads as measure-read-integer-says
-use Rattle.measure.proofs.read.is_date.Kinds as measure-read-is-date
-use Rattle.measure.proofs.read.is_date.Reads as measure-read-is-date-says
+use Rattle.measuring.proofs.number.Kinds as measuring-number
+use Rattle.measuring.proofs.number.Reads as measuring-number-says
+use Rattle.measuring.proofs.integer.Kinds as measuring-integer
+use Rattle.measuring.proofs.integer.Reads as measuring-integer-says
+use Rattle.measuring.proofs.is_date.Kinds as measuring-is-date
+use Rattle.measuring.proofs.is_date.Reads as measuring-is-date-says
 use Rattle.printing.proofs.put_byte.Kinds as printing-put-byte
 use Rattle.printing.proofs.put_byte.Reads as printing-put-byte-says
 use Rattle.printing.proofs.put_count.Kinds as printing-put-count
@@ -44,32 +44,32 @@ use Rattle.printing.proofs.count_len.Kinds as printing-count-len
 use Rattle.printing.proofs.count_len.Reads as printing-count-len-says
 use Rattle.printing.proofs.integer_len.Kinds as printing-integer-len
 use Rattle.printing.proofs.integer_len.Reads as printing-integer-len-says
-use Rattle.form.proofs.layouts.section_of.Kinds as form-layouts-section-of
-use Rattle.form.proofs.layouts.section_of.Reads as form-layouts-section-of-says
-use Rattle.form.proofs.layouts.is_kind.Kinds as form-layouts-is-kind
-use Rattle.form.proofs.layouts.is_kind.Reads as form-layouts-is-kind-says
-use Rattle.form.proofs.layouts.field_count.Kinds as form-layouts-field-count
-use Rattle.form.proofs.layouts.field_count.Reads as form-layouts-field-count-says
-use Rattle.form.proofs.layouts.column_count.Kinds as form-layouts-column-count
-use Rattle.form.proofs.layouts.column_count.Reads as form-layouts-column-count-says
-use Rattle.form.proofs.layouts.width_of.Kinds as form-layouts-width-of
-use Rattle.form.proofs.layouts.width_of.Reads as form-layouts-width-of-says
-use Rattle.form.proofs.layouts.row_of.Kinds as form-layouts-row-of
-use Rattle.form.proofs.layouts.row_of.Reads as form-layouts-row-of-says
-use Rattle.form.proofs.layouts.type_in.Kinds as form-layouts-type-in
-use Rattle.form.proofs.layouts.type_in.Reads as form-layouts-type-in-says
-use Rattle.form.proofs.layouts.field_type.Kinds as form-layouts-field-type
-use Rattle.form.proofs.layouts.field_type.Reads as form-layouts-field-type-says
-use Rattle.form.proofs.names.place_of.Kinds as form-names-place-of
-use Rattle.form.proofs.names.place_of.Reads as form-names-place-of-says
-use Rattle.form.proofs.names.word_row.Kinds as form-names-word-row
-use Rattle.form.proofs.names.word_row.Reads as form-names-word-row-says
-use Rattle.form.proofs.names.name_row.Kinds as form-names-name-row
-use Rattle.form.proofs.names.name_row.Reads as form-names-name-row-says
-use Rattle.form.proofs.names.is_prop.Kinds as form-names-is-prop
-use Rattle.form.proofs.names.is_prop.Reads as form-names-is-prop-says
-use Rattle.form.proofs.names.read_keyword.Kinds as form-names-read-keyword
-use Rattle.form.proofs.names.read_keyword.Reads as form-names-read-keyword-says
+use Rattle.layouts.proofs.section_of.Kinds as layouts-section-of
+use Rattle.layouts.proofs.section_of.Reads as layouts-section-of-says
+use Rattle.layouts.proofs.is_kind.Kinds as layouts-is-kind
+use Rattle.layouts.proofs.is_kind.Reads as layouts-is-kind-says
+use Rattle.layouts.proofs.field_count.Kinds as layouts-field-count
+use Rattle.layouts.proofs.field_count.Reads as layouts-field-count-says
+use Rattle.layouts.proofs.column_count.Kinds as layouts-column-count
+use Rattle.layouts.proofs.column_count.Reads as layouts-column-count-says
+use Rattle.layouts.proofs.width_of.Kinds as layouts-width-of
+use Rattle.layouts.proofs.width_of.Reads as layouts-width-of-says
+use Rattle.layouts.proofs.row_of.Kinds as layouts-row-of
+use Rattle.layouts.proofs.row_of.Reads as layouts-row-of-says
+use Rattle.layouts.proofs.type_in.Kinds as layouts-type-in
+use Rattle.layouts.proofs.type_in.Reads as layouts-type-in-says
+use Rattle.layouts.proofs.field_type.Kinds as layouts-field-type
+use Rattle.layouts.proofs.field_type.Reads as layouts-field-type-says
+use Rattle.words.proofs.place_of.Kinds as words-place-of
+use Rattle.words.proofs.place_of.Reads as words-place-of-says
+use Rattle.words.proofs.word_row.Kinds as words-word-row
+use Rattle.words.proofs.word_row.Reads as words-word-row-says
+use Rattle.words.proofs.name_row.Kinds as words-name-row
+use Rattle.words.proofs.name_row.Reads as words-name-row-says
+use Rattle.words.proofs.is_prop.Kinds as words-is-prop
+use Rattle.words.proofs.is_prop.Reads as words-is-prop-says
+use Rattle.words.proofs.read_keyword.Kinds as words-read-keyword
+use Rattle.words.proofs.read_keyword.Reads as words-read-keyword-says
 use Rattle.slots.proofs.hash.Kinds as slots-hash
 use Rattle.slots.proofs.hash.Reads as slots-hash-says
 use Rattle.slots.proofs.slot_of.Kinds as slots-slot-of
@@ -97,14 +97,16 @@ tight-text-line-end κs a r q ws us e f = (e ∙ sym f, refl)
 pub tight-text-begins-with : Tight 1 text-begins-with.ps text-begins-with.r text-begins-with-says.Learnt
 tight-text-begins-with κs a r q ws us e f = (e ∙ sym f, refl)
 
-pub tight-text-look : Tight 1 text-look.ps text-look.r text-look-says.Learnt
-tight-text-look κs a r q ws us e f = (e ∙ sym f, refl)
+-- `cutting`
 
-pub tight-text-field : Tight 1 text-field.ps text-field.r text-field-says.Learnt
-tight-text-field κs a r q ws us e f = (e ∙ sym f, refl)
+pub tight-cutting-look : Tight 1 cutting-look.ps cutting-look.r cutting-look-says.Learnt
+tight-cutting-look κs a r q ws us e f = (e ∙ sym f, refl)
 
-pub tight-text-count-fields : Tight 1 text-count-fields.ps text-count-fields.r text-count-fields-says.Learnt
-tight-text-count-fields κs a r q ws us e f = (e ∙ sym f, refl)
+pub tight-cutting-field : Tight 1 cutting-field.ps cutting-field.r cutting-field-says.Learnt
+tight-cutting-field κs a r q ws us e f = (e ∙ sym f, refl)
+
+pub tight-cutting-count-fields : Tight 1 cutting-count-fields.ps cutting-count-fields.r cutting-count-fields-says.Learnt
+tight-cutting-count-fields κs a r q ws us e f = (e ∙ sym f, refl)
 
 -- `measure`
 
@@ -126,14 +128,16 @@ tight-measure-Angle-included κs a r q ws us e f = (e ∙ sym f, refl)
 pub tight-measure-Integer-new : Tight 0 measure-Integer-new.ps measure-Integer-new.r measure-Integer-new-says.Learnt
 tight-measure-Integer-new κs a r q ws us e f = (e ∙ sym f, refl)
 
-pub tight-measure-read-number : Tight 1 measure-read-number.ps measure-read-number.r measure-read-number-says.Learnt
-tight-measure-read-number κs a r q ws us e f = (e ∙ sym f, refl)
+-- `measuring`
 
-pub tight-measure-read-integer : Tight 1 measure-read-integer.ps measure-read-integer.r measure-read-integer-says.Learnt
-tight-measure-read-integer κs a r q ws us e f = (e ∙ sym f, refl)
+pub tight-measuring-number : Tight 1 measuring-number.ps measuring-number.r measuring-number-says.Learnt
+tight-measuring-number κs a r q ws us e f = (e ∙ sym f, refl)
 
-pub tight-measure-read-is-date : Tight 1 measure-read-is-date.ps measure-read-is-date.r measure-read-is-date-says.Learnt
-tight-measure-read-is-date κs a r q ws us e f = (e ∙ sym f, refl)
+pub tight-measuring-integer : Tight 1 measuring-integer.ps measuring-integer.r measuring-integer-says.Learnt
+tight-measuring-integer κs a r q ws us e f = (e ∙ sym f, refl)
+
+pub tight-measuring-is-date : Tight 1 measuring-is-date.ps measuring-is-date.r measuring-is-date-says.Learnt
+tight-measuring-is-date κs a r q ws us e f = (e ∙ sym f, refl)
 
 -- `printing`
 
@@ -152,46 +156,48 @@ tight-printing-count-len κs a r q ws us e f = (e ∙ sym f, refl)
 pub tight-printing-integer-len : Tight 0 printing-integer-len.ps printing-integer-len.r printing-integer-len-says.Learnt
 tight-printing-integer-len κs a r q ws us e f = (e ∙ sym f, refl)
 
--- `form`
+-- `layouts`
 
-pub tight-form-layouts-section-of : Tight 0 form-layouts-section-of.ps form-layouts-section-of.r form-layouts-section-of-says.Learnt
-tight-form-layouts-section-of κs a r q ws us e f = (e ∙ sym f, refl)
+pub tight-layouts-section-of : Tight 0 layouts-section-of.ps layouts-section-of.r layouts-section-of-says.Learnt
+tight-layouts-section-of κs a r q ws us e f = (e ∙ sym f, refl)
 
-pub tight-form-layouts-is-kind : Tight 0 form-layouts-is-kind.ps form-layouts-is-kind.r form-layouts-is-kind-says.Learnt
-tight-form-layouts-is-kind κs a r q ws us e f = (e ∙ sym f, refl)
+pub tight-layouts-is-kind : Tight 0 layouts-is-kind.ps layouts-is-kind.r layouts-is-kind-says.Learnt
+tight-layouts-is-kind κs a r q ws us e f = (e ∙ sym f, refl)
 
-pub tight-form-layouts-field-count : Tight 0 form-layouts-field-count.ps form-layouts-field-count.r form-layouts-field-count-says.Learnt
-tight-form-layouts-field-count κs a r q ws us e f = (e ∙ sym f, refl)
+pub tight-layouts-field-count : Tight 0 layouts-field-count.ps layouts-field-count.r layouts-field-count-says.Learnt
+tight-layouts-field-count κs a r q ws us e f = (e ∙ sym f, refl)
 
-pub tight-form-layouts-column-count : Tight 0 form-layouts-column-count.ps form-layouts-column-count.r form-layouts-column-count-says.Learnt
-tight-form-layouts-column-count κs a r q ws us e f = (e ∙ sym f, refl)
+pub tight-layouts-column-count : Tight 0 layouts-column-count.ps layouts-column-count.r layouts-column-count-says.Learnt
+tight-layouts-column-count κs a r q ws us e f = (e ∙ sym f, refl)
 
-pub tight-form-layouts-width-of : Tight 0 form-layouts-width-of.ps form-layouts-width-of.r form-layouts-width-of-says.Learnt
-tight-form-layouts-width-of κs a r q ws us e f = (e ∙ sym f, refl)
+pub tight-layouts-width-of : Tight 0 layouts-width-of.ps layouts-width-of.r layouts-width-of-says.Learnt
+tight-layouts-width-of κs a r q ws us e f = (e ∙ sym f, refl)
 
-pub tight-form-layouts-row-of : Tight 0 form-layouts-row-of.ps form-layouts-row-of.r form-layouts-row-of-says.Learnt
-tight-form-layouts-row-of κs a r q ws us e f = (e ∙ sym f, refl)
+pub tight-layouts-row-of : Tight 0 layouts-row-of.ps layouts-row-of.r layouts-row-of-says.Learnt
+tight-layouts-row-of κs a r q ws us e f = (e ∙ sym f, refl)
 
-pub tight-form-layouts-type-in : Tight 0 form-layouts-type-in.ps form-layouts-type-in.r form-layouts-type-in-says.Learnt
-tight-form-layouts-type-in κs a r q ws us e f = (e ∙ sym f, refl)
+pub tight-layouts-type-in : Tight 0 layouts-type-in.ps layouts-type-in.r layouts-type-in-says.Learnt
+tight-layouts-type-in κs a r q ws us e f = (e ∙ sym f, refl)
 
-pub tight-form-layouts-field-type : Tight 0 form-layouts-field-type.ps form-layouts-field-type.r form-layouts-field-type-says.Learnt
-tight-form-layouts-field-type κs a r q ws us e f = (e ∙ sym f, refl)
+pub tight-layouts-field-type : Tight 0 layouts-field-type.ps layouts-field-type.r layouts-field-type-says.Learnt
+tight-layouts-field-type κs a r q ws us e f = (e ∙ sym f, refl)
 
-pub tight-form-names-place-of : Tight 1 form-names-place-of.ps form-names-place-of.r form-names-place-of-says.Learnt
-tight-form-names-place-of κs a r q ws us e f = (e ∙ sym f, refl)
+-- `words`
 
-pub tight-form-names-word-row : Tight 0 form-names-word-row.ps form-names-word-row.r form-names-word-row-says.Learnt
-tight-form-names-word-row κs a r q ws us e f = (e ∙ sym f, refl)
+pub tight-words-place-of : Tight 1 words-place-of.ps words-place-of.r words-place-of-says.Learnt
+tight-words-place-of κs a r q ws us e f = (e ∙ sym f, refl)
 
-pub tight-form-names-name-row : Tight 0 form-names-name-row.ps form-names-name-row.r form-names-name-row-says.Learnt
-tight-form-names-name-row κs a r q ws us e f = (e ∙ sym f, refl)
+pub tight-words-word-row : Tight 0 words-word-row.ps words-word-row.r words-word-row-says.Learnt
+tight-words-word-row κs a r q ws us e f = (e ∙ sym f, refl)
 
-pub tight-form-names-is-prop : Tight 1 form-names-is-prop.ps form-names-is-prop.r form-names-is-prop-says.Learnt
-tight-form-names-is-prop κs a r q ws us e f = (e ∙ sym f, refl)
+pub tight-words-name-row : Tight 0 words-name-row.ps words-name-row.r words-name-row-says.Learnt
+tight-words-name-row κs a r q ws us e f = (e ∙ sym f, refl)
 
-pub tight-form-names-read-keyword : Tight 1 form-names-read-keyword.ps form-names-read-keyword.r form-names-read-keyword-says.Learnt
-tight-form-names-read-keyword κs a r q ws us e f = (e ∙ sym f, refl)
+pub tight-words-is-prop : Tight 1 words-is-prop.ps words-is-prop.r words-is-prop-says.Learnt
+tight-words-is-prop κs a r q ws us e f = (e ∙ sym f, refl)
+
+pub tight-words-read-keyword : Tight 1 words-read-keyword.ps words-read-keyword.r words-read-keyword-says.Learnt
+tight-words-read-keyword κs a r q ws us e f = (e ∙ sym f, refl)
 
 -- `slots`
 

@@ -6,14 +6,14 @@ use Rattle.comparing.proofs.lists.same_lists.Kinds as comparing-lists-same-list
 use Rattle.comparing.proofs.lists.same_lists.Reads as comparing-lists-same-lists-says
 use Rattle.comparing.proofs.rows.same_row.Kinds as comparing-rows-same-row
 use Rattle.comparing.proofs.rows.same_row.Reads as comparing-rows-same-row-says
+use Rattle.stock.proofs.fill.Kinds as stock-fill
+use Rattle.stock.proofs.fill.Reads as stock-fill-says
+use Rattle.stock.proofs.has_place.Kinds as stock-has-place
+use Rattle.stock.proofs.has_place.Reads as stock-has-place-says
 use Rattle.judging.proofs.entries.is_of.Kinds as judging-entries-is-of
 use Rattle.judging.proofs.entries.is_of.Reads as judging-entries-is-of-says
 use Rattle.judging.proofs.entries.lacks.Kinds as judging-entries-lacks
 use Rattle.judging.proofs.entries.lacks.Reads as judging-entries-lacks-says
-use Rattle.judging.proofs.texts.text_is.Kinds as judging-texts-text-is
-use Rattle.judging.proofs.texts.text_is.Reads as judging-texts-text-is-says
-use Rattle.judging.proofs.texts.same_in.Kinds as judging-texts-same-in
-use Rattle.judging.proofs.texts.same_in.Reads as judging-texts-same-in-says
 use Rattle.judging.proofs.whole.judge.Kinds as judging-whole-judge
 use Rattle.judging.proofs.whole.judge.Reads as judging-whole-judge-says
 use Rattle.columns.proofs.column_at.Kinds as columns-column-at
@@ -39,6 +39,14 @@ tight-comparing-lists-same-lists κs a r q ws us e f = (e ∙ sym f, refl)
 pub tight-comparing-rows-same-row : Tight 2 comparing-rows-same-row.ps comparing-rows-same-row.r comparing-rows-same-row-says.Learnt
 tight-comparing-rows-same-row κs a r q ws us e f = (e ∙ sym f, refl)
 
+-- `stock`
+
+pub tight-stock-fill : Tight 2 stock-fill.ps stock-fill.r stock-fill-says.Learnt
+tight-stock-fill κs a r q ws us e f = (refl, λ i. (ws .0, ((e ∙ sym f) i, ws .1 .1)))
+
+pub tight-stock-has-place : Tight 3 stock-has-place.ps stock-has-place.r stock-has-place-says.Learnt
+tight-stock-has-place κs a r q ws us e f = (e ∙ sym f, refl)
+
 -- `judging`
 
 pub tight-judging-entries-is-of : Tight 0 judging-entries-is-of.ps judging-entries-is-of.r judging-entries-is-of-says.Learnt
@@ -46,12 +54,6 @@ tight-judging-entries-is-of κs a r q ws us e f = (e ∙ sym f, refl)
 
 pub tight-judging-entries-lacks : Tight 3 judging-entries-lacks.ps judging-entries-lacks.r judging-entries-lacks-says.Learnt
 tight-judging-entries-lacks κs a r q ws us e f = (e ∙ sym f, refl)
-
-pub tight-judging-texts-text-is : Tight 2 judging-texts-text-is.ps judging-texts-text-is.r judging-texts-text-is-says.Learnt
-tight-judging-texts-text-is κs a r q ws us e f = (e ∙ sym f, refl)
-
-pub tight-judging-texts-same-in : Tight 2 judging-texts-same-in.ps judging-texts-same-in.r judging-texts-same-in-says.Learnt
-tight-judging-texts-same-in κs a r q ws us e f = (e ∙ sym f, refl)
 
 pub tight-judging-whole-judge : Tight 2 judging-whole-judge.ps judging-whole-judge.r judging-whole-judge-says.Learnt
 tight-judging-whole-judge κs a r q ws us e f = (e ∙ sym f, refl)

@@ -1,72 +1,81 @@
 -- Reading: the contract of each public function leaves no choice.
 use mathlib.Core.Path.{refl, sym, _∙_}
-use Rattle.reading.proofs.line.point_in.Kinds as reading-line-point-in
-use Rattle.reading.proofs.line.point_in.Reads as reading-line-point-in-says
-use Rattle.reading.proofs.line.type_in.Kinds as reading-line-type-in
-use Rattle.reading.proofs.line.type_in.Reads as reading-line-type-in-says
-use Rattle.reading.proofs.line.judge.Kinds as reading-line-judge
-use Rattle.reading.proofs.line.judge.Reads as reading-line-judge-says
-use Rattle.reading.proofs.names.same_names.Kinds as reading-names-same-names
-use Rattle.reading.proofs.names.same_names.Reads as reading-names-same-names-says
-use Rattle.reading.proofs.names.leads_component.Kinds as reading-names-leads-component
-use Rattle.reading.proofs.names.leads_component.Reads as reading-names-leads-component-says
-use Rattle.reading.proofs.names.key.Kinds as reading-names-key
-use Rattle.reading.proofs.names.key.Reads as reading-names-key-says
+use Rattle.walking.proofs.line.point_in.Kinds as walking-line-point-in
+use Rattle.walking.proofs.line.point_in.Reads as walking-line-point-in-says
+use Rattle.walking.proofs.line.type_in.Kinds as walking-line-type-in
+use Rattle.walking.proofs.line.type_in.Reads as walking-line-type-in-says
+use Rattle.walking.proofs.line.judge.Kinds as walking-line-judge
+use Rattle.walking.proofs.line.judge.Reads as walking-line-judge-says
+use Rattle.walking.proofs.steps.begin.Kinds as walking-steps-begin
+use Rattle.walking.proofs.steps.begin.Reads as walking-steps-begin-says
+use Rattle.walking.proofs.steps.turn.Kinds as walking-steps-turn
+use Rattle.walking.proofs.steps.turn.Reads as walking-steps-turn-says
+use Rattle.walking.proofs.steps.stops.Kinds as walking-steps-stops
+use Rattle.walking.proofs.steps.stops.Reads as walking-steps-stops-says
+use Rattle.walking.proofs.steps.is_row.Kinds as walking-steps-is-row
+use Rattle.walking.proofs.steps.is_row.Reads as walking-steps-is-row-says
+use Rattle.naming.proofs.same_names.Kinds as naming-same-names
+use Rattle.naming.proofs.same_names.Reads as naming-same-names-says
+use Rattle.naming.proofs.leads_component.Kinds as naming-leads-component
+use Rattle.naming.proofs.leads_component.Reads as naming-leads-component-says
+use Rattle.naming.proofs.key.Kinds as naming-key
+use Rattle.naming.proofs.key.Reads as naming-key-says
+use Rattle.naming.proofs.repeats.Kinds as naming-repeats
+use Rattle.naming.proofs.repeats.Reads as naming-repeats-says
 use Rattle.reading.proofs.rows.put_row.Kinds as reading-rows-put-row
 use Rattle.reading.proofs.rows.put_row.Reads as reading-rows-put-row-says
 use Rattle.reading.proofs.rows.put_rows.Kinds as reading-rows-put-rows
 use Rattle.reading.proofs.rows.put_rows.Reads as reading-rows-put-rows-says
-use Rattle.reading.proofs.walking.begin.Kinds as reading-walking-begin
-use Rattle.reading.proofs.walking.begin.Reads as reading-walking-begin-says
-use Rattle.reading.proofs.walking.turn.Kinds as reading-walking-turn
-use Rattle.reading.proofs.walking.turn.Reads as reading-walking-turn-says
-use Rattle.reading.proofs.walking.stops.Kinds as reading-walking-stops
-use Rattle.reading.proofs.walking.stops.Reads as reading-walking-stops-says
-use Rattle.reading.proofs.walking.is_row.Kinds as reading-walking-is-row
-use Rattle.reading.proofs.walking.is_row.Reads as reading-walking-is-row-says
 use Rattle.reading.proofs.whole.check.Kinds as reading-whole-check
 use Rattle.reading.proofs.whole.check.Reads as reading-whole-check-says
 use Rattle.reading.proofs.whole.read.Kinds as reading-whole-read
 use Rattle.reading.proofs.whole.read.Reads as reading-whole-read-says
 use Rattle.demands.specs.Tight.{Tight}
 
+-- `walking`
+
+pub tight-walking-line-point-in : Tight 0 walking-line-point-in.ps walking-line-point-in.r walking-line-point-in-says.Learnt
+tight-walking-line-point-in κs a r q ws us e f = (e ∙ sym f, refl)
+
+pub tight-walking-line-type-in : Tight 0 walking-line-type-in.ps walking-line-type-in.r walking-line-type-in-says.Learnt
+tight-walking-line-type-in κs a r q ws us e f = (e ∙ sym f, refl)
+
+pub tight-walking-line-judge : Tight 1 walking-line-judge.ps walking-line-judge.r walking-line-judge-says.Learnt
+tight-walking-line-judge κs a r q ws us e f = (e ∙ sym f, refl)
+
+pub tight-walking-steps-begin : Tight 0 walking-steps-begin.ps walking-steps-begin.r walking-steps-begin-says.Learnt
+tight-walking-steps-begin κs a r q ws us e f = (e ∙ sym f, refl)
+
+pub tight-walking-steps-turn : Tight 1 walking-steps-turn.ps walking-steps-turn.r walking-steps-turn-says.Learnt
+tight-walking-steps-turn κs a r q ws us e f = (e ∙ sym f, refl)
+
+pub tight-walking-steps-stops : Tight 0 walking-steps-stops.ps walking-steps-stops.r walking-steps-stops-says.Learnt
+tight-walking-steps-stops κs a r q ws us e f = (e ∙ sym f, refl)
+
+pub tight-walking-steps-is-row : Tight 0 walking-steps-is-row.ps walking-steps-is-row.r walking-steps-is-row-says.Learnt
+tight-walking-steps-is-row κs a r q ws us e f = (e ∙ sym f, refl)
+
+-- `naming`
+
+pub tight-naming-same-names : Tight 2 naming-same-names.ps naming-same-names.r naming-same-names-says.Learnt
+tight-naming-same-names κs a r q ws us e f = (e ∙ sym f, refl)
+
+pub tight-naming-leads-component : Tight 0 naming-leads-component.ps naming-leads-component.r naming-leads-component-says.Learnt
+tight-naming-leads-component κs a r q ws us e f = (e ∙ sym f, refl)
+
+pub tight-naming-key : Tight 1 naming-key.ps naming-key.r naming-key-says.Learnt
+tight-naming-key κs a r q ws us e f = (e ∙ sym f, refl)
+
+pub tight-naming-repeats : Tight 2 naming-repeats.ps naming-repeats.r naming-repeats-says.Learnt
+tight-naming-repeats κs a r q ws us e f = (e .0 ∙ sym (f .0), λ i. (ws .0, (ws .1 .0, (ws .1 .1 .0, ((e .1 ∙ sym (f .1)) i, ws .1 .1 .1 .1)))))
+
 -- `reading`
-
-pub tight-reading-line-point-in : Tight 0 reading-line-point-in.ps reading-line-point-in.r reading-line-point-in-says.Learnt
-tight-reading-line-point-in κs a r q ws us e f = (e ∙ sym f, refl)
-
-pub tight-reading-line-type-in : Tight 0 reading-line-type-in.ps reading-line-type-in.r reading-line-type-in-says.Learnt
-tight-reading-line-type-in κs a r q ws us e f = (e ∙ sym f, refl)
-
-pub tight-reading-line-judge : Tight 1 reading-line-judge.ps reading-line-judge.r reading-line-judge-says.Learnt
-tight-reading-line-judge κs a r q ws us e f = (e ∙ sym f, refl)
-
-pub tight-reading-names-same-names : Tight 1 reading-names-same-names.ps reading-names-same-names.r reading-names-same-names-says.Learnt
-tight-reading-names-same-names κs a r q ws us e f = (e ∙ sym f, refl)
-
-pub tight-reading-names-leads-component : Tight 0 reading-names-leads-component.ps reading-names-leads-component.r reading-names-leads-component-says.Learnt
-tight-reading-names-leads-component κs a r q ws us e f = (e ∙ sym f, refl)
-
-pub tight-reading-names-key : Tight 1 reading-names-key.ps reading-names-key.r reading-names-key-says.Learnt
-tight-reading-names-key κs a r q ws us e f = (e ∙ sym f, refl)
 
 pub tight-reading-rows-put-row : Tight 1 reading-rows-put-row.ps reading-rows-put-row.r reading-rows-put-row-says.Learnt
 tight-reading-rows-put-row κs a r q ws us e f = (refl, λ i. ((e ∙ sym f) i, ws .1))
 
 pub tight-reading-rows-put-rows : Tight 2 reading-rows-put-rows.ps reading-rows-put-rows.r reading-rows-put-rows-says.Learnt
 tight-reading-rows-put-rows κs a r q ws us e f = (refl, λ i. (ws .0, ((e ∙ sym f) i, ws .1 .1)))
-
-pub tight-reading-walking-begin : Tight 0 reading-walking-begin.ps reading-walking-begin.r reading-walking-begin-says.Learnt
-tight-reading-walking-begin κs a r q ws us e f = (e ∙ sym f, refl)
-
-pub tight-reading-walking-turn : Tight 1 reading-walking-turn.ps reading-walking-turn.r reading-walking-turn-says.Learnt
-tight-reading-walking-turn κs a r q ws us e f = (e ∙ sym f, refl)
-
-pub tight-reading-walking-stops : Tight 0 reading-walking-stops.ps reading-walking-stops.r reading-walking-stops-says.Learnt
-tight-reading-walking-stops κs a r q ws us e f = (e ∙ sym f, refl)
-
-pub tight-reading-walking-is-row : Tight 0 reading-walking-is-row.ps reading-walking-is-row.r reading-walking-is-row-says.Learnt
-tight-reading-walking-is-row κs a r q ws us e f = (e ∙ sym f, refl)
 
 pub tight-reading-whole-check : Tight 1 reading-whole-check.ps reading-whole-check.r reading-whole-check-says.Learnt
 tight-reading-whole-check κs a r q ws us e f = (e ∙ sym f, refl)

@@ -6,6 +6,12 @@ use Rattle.fields.proofs.is_within.Kinds as fields-is-within
 use Rattle.fields.proofs.is_within.Reads as fields-is-within-says
 use Rattle.fields.proofs.read_field.Kinds as fields-read-field
 use Rattle.fields.proofs.read_field.Reads as fields-read-field-says
+use Rattle.spans.proofs.text_is.Kinds as spans-text-is
+use Rattle.spans.proofs.text_is.Reads as spans-text-is-says
+use Rattle.spans.proofs.same_texts.Kinds as spans-same-texts
+use Rattle.spans.proofs.same_texts.Reads as spans-same-texts-says
+use Rattle.spans.proofs.hash_text.Kinds as spans-hash-text
+use Rattle.spans.proofs.hash_text.Reads as spans-hash-text-says
 use Rattle.wording.proofs.put_bytes.Kinds as wording-put-bytes
 use Rattle.wording.proofs.put_bytes.Reads as wording-put-bytes-says
 use Rattle.wording.proofs.needs_quotes.Kinds as wording-needs-quotes
@@ -28,24 +34,26 @@ use Rattle.loops.proofs.loop_after.Kinds as loops-loop-after
 use Rattle.loops.proofs.loop_after.Reads as loops-loop-after-says
 use Rattle.loops.proofs.complete.Kinds as loops-complete
 use Rattle.loops.proofs.complete.Reads as loops-complete-says
-use Rattle.records.proofs.stages.may_open.Kinds as records-stages-may-open
-use Rattle.records.proofs.stages.may_open.Reads as records-stages-may-open-says
-use Rattle.records.proofs.states.role_of.Kinds as records-states-role-of
-use Rattle.records.proofs.states.role_of.Reads as records-states-role-of-says
-use Rattle.records.proofs.states.accepting.Kinds as records-states-accepting
-use Rattle.records.proofs.states.accepting.Reads as records-states-accepting-says
-use Rattle.records.proofs.states.may_stand.Kinds as records-states-may-stand
-use Rattle.records.proofs.states.may_stand.Reads as records-states-may-stand-says
-use Rattle.records.proofs.states.advance.Kinds as records-states-advance
-use Rattle.records.proofs.states.advance.Reads as records-states-advance-says
-use Rattle.records.proofs.states.data_kind.Kinds as records-states-data-kind
-use Rattle.records.proofs.states.data_kind.Reads as records-states-data-kind-says
-use Rattle.records.proofs.states.key_kind.Kinds as records-states-key-kind
-use Rattle.records.proofs.states.key_kind.Reads as records-states-key-kind-says
-use Rattle.records.proofs.states.refusal_number.Kinds as records-states-refusal-number
-use Rattle.records.proofs.states.refusal_number.Reads as records-states-refusal-number-says
-use Rattle.records.proofs.states.type_at.Kinds as records-states-type-at
-use Rattle.records.proofs.states.type_at.Reads as records-states-type-at-says
+use Rattle.kinds.proofs.role_of.Kinds as kinds-role-of
+use Rattle.kinds.proofs.role_of.Reads as kinds-role-of-says
+use Rattle.kinds.proofs.data_kind.Kinds as kinds-data-kind
+use Rattle.kinds.proofs.data_kind.Reads as kinds-data-kind-says
+use Rattle.kinds.proofs.key_kind.Kinds as kinds-key-kind
+use Rattle.kinds.proofs.key_kind.Reads as kinds-key-kind-says
+use Rattle.states.proofs.stages.may_open.Kinds as states-stages-may-open
+use Rattle.states.proofs.stages.may_open.Reads as states-stages-may-open-says
+use Rattle.states.proofs.accepting.Kinds as states-accepting
+use Rattle.states.proofs.accepting.Reads as states-accepting-says
+use Rattle.states.proofs.may_stand.Kinds as states-may-stand
+use Rattle.states.proofs.may_stand.Reads as states-may-stand-says
+use Rattle.states.proofs.moved.Kinds as states-moved
+use Rattle.states.proofs.moved.Reads as states-moved-says
+use Rattle.states.proofs.advance.Kinds as states-advance
+use Rattle.states.proofs.advance.Reads as states-advance-says
+use Rattle.states.proofs.refusal_number.Kinds as states-refusal-number
+use Rattle.states.proofs.refusal_number.Reads as states-refusal-number-says
+use Rattle.states.proofs.type_at.Kinds as states-type-at
+use Rattle.states.proofs.type_at.Reads as states-type-at-says
 use Rattle.demands.specs.Tight.{Tight}
 
 -- `fields`
@@ -58,6 +66,17 @@ tight-fields-is-within κs a r q ws us e f = (e ∙ sym f, refl)
 
 pub tight-fields-read-field : Tight 1 fields-read-field.ps fields-read-field.r fields-read-field-says.Learnt
 tight-fields-read-field κs a r q ws us e f = (e ∙ sym f, refl)
+
+-- `spans`
+
+pub tight-spans-text-is : Tight 2 spans-text-is.ps spans-text-is.r spans-text-is-says.Learnt
+tight-spans-text-is κs a r q ws us e f = (e ∙ sym f, refl)
+
+pub tight-spans-same-texts : Tight 2 spans-same-texts.ps spans-same-texts.r spans-same-texts-says.Learnt
+tight-spans-same-texts κs a r q ws us e f = (e ∙ sym f, refl)
+
+pub tight-spans-hash-text : Tight 1 spans-hash-text.ps spans-hash-text.r spans-hash-text-says.Learnt
+tight-spans-hash-text κs a r q ws us e f = (e ∙ sym f, refl)
 
 -- `wording`
 
@@ -98,31 +117,36 @@ tight-loops-loop-after κs a r q ws us e f = (e ∙ sym f, refl)
 pub tight-loops-complete : Tight 0 loops-complete.ps loops-complete.r loops-complete-says.Learnt
 tight-loops-complete κs a r q ws us e f = (e ∙ sym f, refl)
 
--- `records`
+-- `kinds`
 
-pub tight-records-stages-may-open : Tight 0 records-stages-may-open.ps records-stages-may-open.r records-stages-may-open-says.Learnt
-tight-records-stages-may-open κs a r q ws us e f = (e ∙ sym f, refl)
+pub tight-kinds-role-of : Tight 0 kinds-role-of.ps kinds-role-of.r kinds-role-of-says.Learnt
+tight-kinds-role-of κs a r q ws us e f = (e ∙ sym f, refl)
 
-pub tight-records-states-role-of : Tight 0 records-states-role-of.ps records-states-role-of.r records-states-role-of-says.Learnt
-tight-records-states-role-of κs a r q ws us e f = (e ∙ sym f, refl)
+pub tight-kinds-data-kind : Tight 0 kinds-data-kind.ps kinds-data-kind.r kinds-data-kind-says.Learnt
+tight-kinds-data-kind κs a r q ws us e f = (e ∙ sym f, refl)
 
-pub tight-records-states-accepting : Tight 0 records-states-accepting.ps records-states-accepting.r records-states-accepting-says.Learnt
-tight-records-states-accepting κs a r q ws us e f = (e ∙ sym f, refl)
+pub tight-kinds-key-kind : Tight 0 kinds-key-kind.ps kinds-key-kind.r kinds-key-kind-says.Learnt
+tight-kinds-key-kind κs a r q ws us e f = (e ∙ sym f, refl)
 
-pub tight-records-states-may-stand : Tight 0 records-states-may-stand.ps records-states-may-stand.r records-states-may-stand-says.Learnt
-tight-records-states-may-stand κs a r q ws us e f = (e ∙ sym f, refl)
+-- `states`
 
-pub tight-records-states-advance : Tight 0 records-states-advance.ps records-states-advance.r records-states-advance-says.Learnt
-tight-records-states-advance κs a r q ws us e f = (e ∙ sym f, refl)
+pub tight-states-stages-may-open : Tight 0 states-stages-may-open.ps states-stages-may-open.r states-stages-may-open-says.Learnt
+tight-states-stages-may-open κs a r q ws us e f = (e ∙ sym f, refl)
 
-pub tight-records-states-data-kind : Tight 0 records-states-data-kind.ps records-states-data-kind.r records-states-data-kind-says.Learnt
-tight-records-states-data-kind κs a r q ws us e f = (e ∙ sym f, refl)
+pub tight-states-accepting : Tight 0 states-accepting.ps states-accepting.r states-accepting-says.Learnt
+tight-states-accepting κs a r q ws us e f = (e ∙ sym f, refl)
 
-pub tight-records-states-key-kind : Tight 0 records-states-key-kind.ps records-states-key-kind.r records-states-key-kind-says.Learnt
-tight-records-states-key-kind κs a r q ws us e f = (e ∙ sym f, refl)
+pub tight-states-may-stand : Tight 0 states-may-stand.ps states-may-stand.r states-may-stand-says.Learnt
+tight-states-may-stand κs a r q ws us e f = (e ∙ sym f, refl)
 
-pub tight-records-states-refusal-number : Tight 0 records-states-refusal-number.ps records-states-refusal-number.r records-states-refusal-number-says.Learnt
-tight-records-states-refusal-number κs a r q ws us e f = (e ∙ sym f, refl)
+pub tight-states-moved : Tight 0 states-moved.ps states-moved.r states-moved-says.Learnt
+tight-states-moved κs a r q ws us e f = (e ∙ sym f, refl)
 
-pub tight-records-states-type-at : Tight 0 records-states-type-at.ps records-states-type-at.r records-states-type-at-says.Learnt
-tight-records-states-type-at κs a r q ws us e f = (e ∙ sym f, refl)
+pub tight-states-advance : Tight 0 states-advance.ps states-advance.r states-advance-says.Learnt
+tight-states-advance κs a r q ws us e f = (e ∙ sym f, refl)
+
+pub tight-states-refusal-number : Tight 0 states-refusal-number.ps states-refusal-number.r states-refusal-number-says.Learnt
+tight-states-refusal-number κs a r q ws us e f = (e ∙ sym f, refl)
+
+pub tight-states-type-at : Tight 0 states-type-at.ps states-type-at.r states-type-at-says.Learnt
+tight-states-type-at κs a r q ws us e f = (e ∙ sym f, refl)

@@ -10,9 +10,8 @@ use lib.ListN.{length, take, drop}
 use lib.Seq.{take-at}
 use Rattle.form.specs.Values.{Rec}
 use Rattle.form.specs.declared.Rules.the-variants.{Idf3}
-use Rattle.reading.specs.Walks.{limit}
-use Rattle.reading.specs.Replies.{reply}
-use Rattle.reading.specs.declared.Reply.{Reply}
+use Rattle.records.specs.Answers.{limit, reply}
+use Rattle.records.specs.declared.Reply.{Reply}
 use Rattle.writing.specs.WholeRows.{wholeRows}
 use Rattle.writing.specs.Writable.{writable}
 use Rattle.writing.specs.Outcomes.{writeReply, writeText}

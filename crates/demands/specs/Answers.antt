@@ -6,9 +6,8 @@ use lib.ListN.{length, take, drop}
 use Rattle.text.specs.LineRules.{File}
 use Rattle.form.specs.Values.{Rec}
 use Rattle.form.specs.declared.Rules.the-variants.{Idf3}
-use Rattle.reading.specs.Walks.{limit}
-use Rattle.reading.specs.Replies.{reply}
-use Rattle.reading.specs.declared.Reply.{Reply}
+use Rattle.records.specs.Answers.{limit, reply}
+use Rattle.records.specs.declared.Reply.{Reply}
 use Rattle.files.specs.WholeRules.{FileSays, Mendable}
 use Rattle.written.specs.Texts.{canonicalText, RowsSay}
 

@@ -4,12 +4,11 @@ use mathlib.Core.Path.{_≡_}
 use mathlib.Core.List.{List}
 use lib.IntN.{ℤ}
 use lib.ListN.{length}
-use Rattle.reading.specs.declared.Reply.{Reply}
+use Rattle.records.specs.declared.Reply.{Reply}
 use Rattle.reading.specs.Replies.{checkReply, readReply, readRows}
 use Rattle.writing.specs.Outcomes.{writeReply, writeText}
-use Rattle.comparing.specs.declared.Verdict as compared
+use Rattle.records.specs.declared.Verdict.{Verdict}
 use Rattle.comparing.specs.Verdicts.{sameReply}
-use Rattle.judging.specs.declared.Verdict as judged
 use Rattle.judging.specs.Verdicts.{judgeReply}
 
 pub record Checks (file : List ℕ) (r : Reply) : Type 0 where
@@ -24,8 +23,8 @@ pub record Writes (rows : List ℤ) (bytes old : List ℕ) (r : Reply) (new : Li
   pub answer : r ≡ writeReply rows bytes (length old)
   pub left : new ≡ writeText rows bytes old
 
-pub record Compares (first second : List ℕ) (r : compared.Verdict) : Type 0 where
+pub record Compares (first second : List ℕ) (r : Verdict) : Type 0 where
   pub answer : r ≡ sameReply first second
 
-pub record Judges (board library : List ℕ) (r : judged.Verdict) : Type 0 where
+pub record Judges (board library : List ℕ) (r : Verdict) : Type 0 where
   pub answer : r ≡ judgeReply board library

@@ -8,7 +8,7 @@ use measure::WholeAnswer;
 fn number(name: &[u8], s: &[u8]) {
     say(b"number ");
     say(name);
-    match measure::read::number(s, 5, measure::Length::LARGEST) {
+    match measuring::number(s, 5, measure::Length::LARGEST) {
         NumberAnswer::Count(z) => {
             say(b": ");
             say_signed(z);
@@ -26,7 +26,7 @@ fn number(name: &[u8], s: &[u8]) {
 fn integer(name: &[u8], s: &[u8]) {
     say(b"integer ");
     say(name);
-    match measure::read::integer(s) {
+    match measuring::integer(s) {
         WholeAnswer::Whole(z) => {
             say(b": ");
             say_signed(z.0);
@@ -41,7 +41,7 @@ fn integer(name: &[u8], s: &[u8]) {
 fn date(s: &[u8]) {
     say(b"date ");
     say(s);
-    if measure::read::is_date(s) {
+    if measuring::is_date(s) {
         say(b": yes");
     } else {
         say(b": no");

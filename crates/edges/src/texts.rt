@@ -2,10 +2,10 @@
 use crate::saying::end_line;
 use crate::saying::say;
 use crate::saying::say_number;
+use cutting::CountAnswer;
+use cutting::FieldAnswer;
+use cutting::LineLook;
 use text::ByteClass;
-use text::CountAnswer;
-use text::FieldAnswer;
-use text::LineLook;
 ghost use mathlib.Core.Path.{_≡_};
 ghost use Rattle.text.specs.Lines.{lineEnd};
 
@@ -30,7 +30,7 @@ fn class(b: u8) {
 }
 
 fn say_look(line: &[u8]) {
-    match text::look(line) {
+    match cutting::look(line) {
         LineLook::Comment => {
             say(b"comment");
         }
@@ -44,7 +44,7 @@ fn say_look(line: &[u8]) {
 }
 
 fn say_first(line: &[u8]) {
-    match text::field(line) {
+    match cutting::field(line) {
         FieldAnswer::Nothing => {
             say(b"no field");
         }
@@ -81,7 +81,7 @@ fn line(name: &[u8], l: &[u8]) {
     } else {
         say(b", forbidden byte, ");
     }
-    match text::count_fields(l) {
+    match cutting::count_fields(l) {
         CountAnswer::Fields(n) => {
             say_number(n as u64);
             say(b" fields, first ");

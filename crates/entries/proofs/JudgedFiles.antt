@@ -7,11 +7,11 @@ use borrow.Author.Tests.{eq-eqb, ne-eqb}
 use lib.ListN.{length}
 use Rattle.form.specs.Values.{Rec}
 use Rattle.form.specs.declared.Rules.the-variants.{Idf3}
-use Rattle.reading.specs.Walks.{limit}
+use Rattle.records.specs.Answers.{limit}
 use Rattle.reading.specs.Replies.{checkReply}
 use Rattle.files.specs.WholeRules.{FileSays}
 use Rattle.files.proofs.Checked.{check-count}
-use Rattle.judging.specs.declared.Verdict.{Verdict}
+use Rattle.records.specs.declared.Verdict.{Verdict}
 use Rattle.judging.specs.Verdicts.{refusedAs, typeOf, placed, matched, withLibrary, judgeReply}
 use Rattle.entries.specs.JudgeRules.{Judged}
 use Rattle.entries.specs.JudgeLists.{judgeLists}

@@ -24,13 +24,15 @@ use Rattle.records.specs.Marks.{typeIn, Named, namesAComponent, nameIn}
 use Rattle.records.specs.Automaton.{isRole, sameName}
 use Rattle.permitted.specs.ListRules.{Header, header-of, header-of-library, Permitted, a-board, a-panel, a-library}
 use Rattle.permitted.proofs.Basics.{at-each, both, other}
-use Rattle.reading.specs.Judging.{columnAt, typeInRow}
-use Rattle.reading.specs.Walks.{Trace, traceOf}
-use Rattle.reading.specs.Names.{textAt}
+use Rattle.walking.specs.Judging.{columnAt, typeInRow}
+use Rattle.walking.specs.Walks.{Trace, traceOf}
+use Rattle.spans.specs.Texts.{textAt, textIs, sameTexts}
 use Rattle.files.specs.WholeRules.{titled}
 use Rattle.files.proofs.RowColumns.{nameAt, type-in, name-in}
-use Rattle.judging.specs.Entries.{textIs, sameIn, sameEntry, refers, entryIn, hasEntry, lacksEntry}
-use Rattle.judging.specs.Verdicts.{verdict, typeFrom, placedFrom}
+use Rattle.naming.specs.Names.{sameNames}
+use Rattle.judging.specs.Entries.{refers, entryIn, hasEntry, lacksEntry}
+use Rattle.records.specs.Answers.{verdict}
+use Rattle.judging.specs.Verdicts.{typeFrom, placedFrom}
 use Rattle.entries.specs.JudgeRules.{Placement, placementIn, placementsOf}
 use Rattle.entries.specs.JudgeLists.{hasEntryOf, lacksIn, placedBehind}
 use Rattle.entries.proofs.TracedRows.{Holding, done, skip, row}
@@ -98,7 +100,7 @@ type-said p h = type-among h ∙ type-titled p
 
 module _ (library board : List ℕ) (x : List ℤ) (k : ℕ) (c : namesAComponent Idf3 k ≡ true) where
   entry-said : {qs : List Rec} {t : Trace} → Holding library qs t → entryIn library (pos k) board x t ≡ hasEntryOf k (nameAt board x) qs
-  unfolding entryIn sameEntry sameIn textIs
+  unfolding entryIn sameNames sameTexts textIs
   entry-said done = refl
   entry-said (skip h) = entry-said h
   entry-said (row {r = q} {x = y} {rs = qs} {t = t} h m) = rw (kind-is library (q .kind) _ y (q .values) h k, entry-said m) (go (eqb (q .kind) k) refl)

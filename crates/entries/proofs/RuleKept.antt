@@ -17,9 +17,9 @@ use Rattle.records.specs.Marks.{isLibrary, Named, nameIn}
 use Rattle.records.specs.Automaton.{sameName}
 use Rattle.permitted.proofs.Basics.{both, not-both, bytes-true, bytes-self}
 use Rattle.files.specs.WholeRules.{titled}
-use Rattle.judging.specs.declared.Verdict.{Verdict}
+use Rattle.records.specs.declared.Verdict.{Verdict}
 use Rattle.judging.specs.Entries.{noReference}
-use Rattle.judging.specs.Verdicts.{verdict}
+use Rattle.records.specs.Answers.{verdict}
 use Rattle.entries.specs.JudgeRules.{Placement, placementsOf, Entry, this, later, Served, board, mechanical, electrical, AllServed, none, one, Judged, first-wrong, second-wrong, lacking, served}
 use Rattle.entries.specs.JudgeLists.{hasEntryOf, lacksIn, placedBehind, judgeLists}
 

@@ -11,9 +11,9 @@ use Rattle.lines.specs.Meaning.{Holds}
 use Rattle.records.specs.Marks.{Named}
 use Rattle.records.specs.Automaton.{repeats, noted}
 use Rattle.records.specs.declared.State.{State}
-use Rattle.reading.specs.declared.Walk.{Walk}
-use Rattle.reading.specs.Walks as walk
-use Rattle.reading.specs.Walks.{Trace, traceOf}
+use Rattle.walking.specs.declared.Walk.{Walk}
+use Rattle.walking.specs.Walks as walk
+use Rattle.walking.specs.Walks.{Trace, traceOf}
 use Rattle.files.specs.Told.{says, wrong, Told, ended, broken, afterNothing, afterRecord, goOn, toldFrom}
 use Rattle.files.specs.WholeRules.{FileSays}
 use Rattle.files.proofs.LineUsed.{line-used}

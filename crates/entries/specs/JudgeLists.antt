@@ -9,9 +9,9 @@ use Rattle.form.specs.Compare.{sameBytes}
 use Rattle.records.specs.Marks.{isLibrary, Named, nameIn}
 use Rattle.records.specs.Automaton.{sameName}
 use Rattle.files.specs.WholeRules.{titled}
-use Rattle.judging.specs.declared.Verdict.{Verdict}
+use Rattle.records.specs.declared.Verdict.{Verdict}
 use Rattle.judging.specs.Entries.{noReference}
-use Rattle.judging.specs.Verdicts.{verdict}
+use Rattle.records.specs.Answers.{verdict}
 use Rattle.entries.specs.JudgeRules.{Placement, placementsOf}
 
 -- some record leads an entry of kind k with this geometry and part

@@ -11,9 +11,9 @@ use Rattle.form.specs.Names.{boardWord}
 use Rattle.form.specs.declared.FileType.the-variants.{Library}
 use Rattle.records.specs.Marks.{bytesOf, valueAt, Named, nameIn}
 use Rattle.files.specs.WholeRules.{titled}
-use Rattle.judging.specs.declared.Verdict.{Verdict}
+use Rattle.records.specs.declared.Verdict.{Verdict}
 use Rattle.judging.specs.Entries.{noReference}
-use Rattle.judging.specs.Verdicts.{verdict}
+use Rattle.records.specs.Answers.{verdict}
 
 -- a placement: package and part number, as a component's name, and the reference
 pub record Placement : Type 0 where

@@ -33,7 +33,7 @@ use Rattle.form.specs.Names.{wordsOf, boardWord}
 use Rattle.form.specs.Compare.{sameBytes, placeOf}
 use Rattle.form.specs.Fits.{above, versionOf, isVersion, kept, within, beyond, meaning, isBoard, barred}
 use Rattle.form.specs.Reading.{ofPlace, readField}
-use Rattle.form.specs.Padded.{found}
+use Rattle.words.specs.Padded.{found}
 use Rattle.fields.specs.Told.{told, toldCount, toldInteger, toldWord, toldReference, toldDate}
 use Rattle.form.specs.declared.Rules.{Rules}
 use Rattle.form.specs.declared.Rules.the-variants.{Idf3}
@@ -43,8 +43,8 @@ use Rattle.form.specs.declared.Limit.{Limit}
 use Rattle.form.specs.declared.Limit.the-variants.{Length as L, NotBelow as L0, Above as Lp, Included as A, Rotation as R, Version as Ver}
 use Rattle.form.specs.declared.FieldType.{FieldType}
 use Rattle.form.specs.declared.FieldType.the-variants.{Text as T, Reference as Ref, Date as D, Integer as I, Number as N, Word as W}
-use Rattle.form.specs.declared.Found.{Found}
-use Rattle.form.specs.declared.Found.the-variants.{At, Nowhere}
+use Rattle.words.specs.declared.Found.{Found}
+use Rattle.words.specs.declared.Found.the-variants.{At, Nowhere}
 use Rattle.fields.specs.declared.FieldReply.{FieldReply}
 use Rattle.fields.specs.declared.FieldReply.the-variants.{Number, Word, Bytes, Refused}
 

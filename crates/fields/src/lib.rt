@@ -2,7 +2,6 @@
 use form::Context;
 use form::FieldType;
 use form::FileType;
-use form::Found;
 use form::Limit;
 use form::Rules;
 use form::Words;
@@ -10,6 +9,7 @@ use measure::AngleAnswer;
 use measure::Length;
 use measure::NumberAnswer;
 use measure::WholeAnswer;
+use words::Found;
 ghost use mathlib.Core.Path.{_≡_};
 ghost use mathlib.Core.Bool.{true, false};
 ghost use Rattle.text.specs.Bytes.{field};
@@ -119,7 +119,7 @@ fn kept_of(c: Context, l: Limit) -> usize
 fn count_field(c: Context, l: Limit, s: &[u8]) -> FieldReply
     ensures { λ r. ⌜ r ≡ toldCount c l (now (s .entry)) ⌝ }
 {
-    match measure::read::number(s, kept_of(c, l), Length::LARGEST) {
+    match measuring::number(s, kept_of(c, l), Length::LARGEST) {
         NumberAnswer::NotNumber => FieldReply::Refused(7),
         NumberAnswer::TooFine => FieldReply::Refused(8),
         NumberAnswer::Count(z) => {
@@ -136,7 +136,7 @@ fn count_field(c: Context, l: Limit, s: &[u8]) -> FieldReply
 fn integer_field(s: &[u8]) -> FieldReply
     ensures { λ r. ⌜ r ≡ toldInteger (now (s .entry)) ⌝ }
 {
-    match measure::read::integer(s) {
+    match measuring::integer(s) {
         WholeAnswer::Whole(z) => FieldReply::Number(z.0),
         WholeAnswer::NotInteger => FieldReply::Refused(7),
     }
@@ -146,7 +146,7 @@ fn integer_field(s: &[u8]) -> FieldReply
 fn word_field(v: Rules, l: Words, s: &[u8]) -> FieldReply
     ensures { λ r. ⌜ r ≡ toldWord v l (now (s .entry)) ⌝ }
 {
-    match form::names::place_of(v, l, s) {
+    match words::place_of(v, l, s) {
         Found::At(n) => FieldReply::Word(n),
         Found::Nowhere => FieldReply::Refused(9),
     }
@@ -180,7 +180,7 @@ fn reference_field(c: Context, s: &[u8]) -> FieldReply
 fn date_field(s: &[u8]) -> FieldReply
     ensures { λ r. ⌜ r ≡ toldDate (now (s .entry)) ⌝ }
 {
-    if measure::read::is_date(s) {
+    if measuring::is_date(s) {
         FieldReply::Bytes
     } else {
         FieldReply::Refused(9)

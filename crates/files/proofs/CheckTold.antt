@@ -16,10 +16,11 @@ use Rattle.lines.specs.Meaning.{Holds}
 use Rattle.records.specs.Marks.{Named, namesAComponent, nameIn}
 use Rattle.records.specs.Automaton.{start, accepting, isAmong, repeats, noted}
 use Rattle.records.specs.declared.State.{State}
-use Rattle.reading.specs.Walks.{limit, Trace}
-use Rattle.reading.specs.Names.{leadsComponent}
-use Rattle.reading.specs.Replies.{reply, endedBy, surveyed, checkReply}
-use Rattle.reading.specs.declared.Reply.{Reply}
+use Rattle.records.specs.Answers.{limit, reply}
+use Rattle.walking.specs.Walks.{Trace}
+use Rattle.naming.specs.Names.{leadsComponent}
+use Rattle.reading.specs.Replies.{endedBy, surveyed, checkReply}
+use Rattle.records.specs.declared.Reply.{Reply}
 use Rattle.files.specs.Told.{says, wrong, Told, ended, broken, afterNothing, afterRecord, goOn, toldFrom}
 use Rattle.files.specs.Outcomes.{replyOf}
 use Rattle.files.proofs.RowColumns.{nameAt, name-in, names-is}

@@ -5,8 +5,8 @@ use mathlib.Core.List.{List, [], _∷_}
 use mathlib.Core.Bool.{true, false}
 use lib.IntN.{pos}
 use Rattle.text.specs.Bytes.{permitted, allOf, begins, ascii}
-use Rattle.text.specs.FirstField.{span, endsWell, bareAt, closedAt, quotedAt, fieldAt, fieldOf}
-use Rattle.text.specs.Fields.{fieldsIn, fieldsOf}
+use Rattle.cutting.specs.FirstField.{span, endsWell, bareAt, closedAt, quotedAt, fieldAt, fieldOf}
+use Rattle.cutting.specs.Fields.{fieldsIn, fieldsOf}
 use Rattle.measure.specs.Numbers.{digitHere, judge, decimals, whole, body, readNumber}
 use Rattle.measure.specs.Integers.{digits, unsigned, readInteger}
 use Rattle.measure.specs.DateRules.{datePieces}

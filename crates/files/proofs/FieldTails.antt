@@ -7,11 +7,11 @@ use mathlib.Core.Bool.{Bool, true, false, cond}
 use native.Mathlib.Omega.{arith}
 use lib.ListN.{length, take, drop}
 use Rattle.text.specs.Bytes.{permitted, allOf, begins, Field, field}
-use Rattle.text.specs.FirstField.{fieldOf}
-use Rattle.text.specs.Fields.{fieldsBy, fieldsIn, fieldsOf}
-use Rattle.text.specs.declared.FieldAnswer.{FieldAnswer}
-use Rattle.text.specs.declared.FieldAnswer.the-variants.{Nothing, Got, Broken}
-use Rattle.text.proofs.FieldSpelling.{sound-in, fields-complete}
+use Rattle.cutting.specs.FirstField.{fieldOf}
+use Rattle.cutting.specs.Fields.{fieldsBy, fieldsIn, fieldsOf}
+use Rattle.cutting.specs.declared.FieldAnswer.{FieldAnswer}
+use Rattle.cutting.specs.declared.FieldAnswer.the-variants.{Nothing, Got, Broken}
+use Rattle.cutting.proofs.FieldSpelling.{sound-in, fields-complete}
 use Rattle.form.specs.Compare.{folded}
 use Rattle.form.specs.Reading.{Line, free, bad, keyLine, dataLine, byFirst, byFields, lineAs}
 use Rattle.lines.specs.LineKinds.{behind}

@@ -8,13 +8,13 @@ use native.Mathlib.Omega.{arith}
 use borrow.Author.Tests.{eqb-true}
 use Rattle.text.specs.Bytes as by
 use Rattle.text.specs.Bytes.{permitted, isSpace, All, allOf, begins, Field, field}
-use Rattle.text.specs.Looks.{lookOf}
+use Rattle.cutting.specs.Looks.{lookOf}
 use Rattle.text.specs.LineRules.{Free, blank, comment}
-use Rattle.text.specs.FieldRules.{Spelled, end, space}
-use Rattle.text.specs.Fields.{fieldsOf}
+use Rattle.cutting.specs.FieldRules.{Spelled, end, space}
+use Rattle.cutting.specs.Fields.{fieldsOf}
 use Rattle.text.proofs.Lists.{all-complete}
-use Rattle.text.proofs.FieldSpelling.{fields-sound, fields-complete}
-use Rattle.text.proofs.LineSpelling.{free-sound}
+use Rattle.cutting.proofs.FieldSpelling.{fields-sound, fields-complete}
+use Rattle.cutting.proofs.LookSpelling.{free-sound}
 use Rattle.measure.proofs.Tests.{cond-both}
 use Rattle.form.specs.Compare.{folded}
 use Rattle.form.specs.Reading.{Line, free, bad, keyLine, dataLine, byFirst, byFields, lineAs}

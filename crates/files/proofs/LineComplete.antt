@@ -14,7 +14,7 @@ use Rattle.measure.specs.Numbers.{digitHere}
 use Rattle.measure.specs.IntegerRules.{SpellsInteger}
 use Rattle.measure.specs.Integers.{unsigned, readInteger}
 use Rattle.measure.specs.declared.WholeAnswer.the-variants.{Whole}
-use Rattle.measure.proofs.IntegerSpelling.{integer-complete}
+use Rattle.measuring.proofs.IntegerSpelling.{integer-complete}
 use Rattle.form.specs.Values.{Value, Rec, good}
 use Rattle.form.specs.Sections.{Section, Shape, sectionAt}
 use Rattle.form.specs.Kinds as role

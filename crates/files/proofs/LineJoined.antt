@@ -10,8 +10,8 @@ use lib.Dec.{eqb}
 use lib.IntN.{ℤ}
 use lib.ListN.{length}
 use Rattle.text.specs.Bytes.{Field}
-use Rattle.text.specs.FirstField.{fieldOf}
-use Rattle.text.specs.Fields.{fieldsOf}
+use Rattle.cutting.specs.FirstField.{fieldOf}
+use Rattle.cutting.specs.Fields.{fieldsOf}
 use Rattle.form.specs.Values.{Value, Rec, Reply, good, refused}
 use Rattle.form.specs.Kinds.{title, point, prop, roleOf}
 use Rattle.form.specs.Layouts.{typesOf}
@@ -37,9 +37,9 @@ use Rattle.records.specs.declared.Outcome.the-variants.{Next as next, Refused a
 use Rattle.records.proofs.Steps.{advance-stepped, point-only, title-only}
 use Rattle.spelling.proofs.KeywordLaws.{keyword-is}
 use Rattle.spelling.proofs.RecordSpelling.{record-fits}
-use Rattle.reading.specs.Judging.{pointIn, typeInRow, refusedBy, freeBy, movedRow, filledBy, ofKind, dataBy, judgedBy, judged}
-use Rattle.reading.specs.declared.Found.the-variants.{Row, Nothing, Refused}
-use Rattle.reading.specs.declared.Judged.{Judged}
+use Rattle.walking.specs.Judging.{pointIn, typeInRow, refusedBy, freeBy, movedRow, filledBy, ofKind, dataBy, judgedBy, judged}
+use Rattle.walking.specs.declared.Found.the-variants.{Row, Nothing, Refused}
+use Rattle.walking.specs.declared.Judged.{Judged}
 use Rattle.files.specs.Told.{Said, nothing, says, wrong, freeIn, saidOf, saidBy, saidAt, saidAs, lineSays}
 use Rattle.files.proofs.Fronts.{stands-known}
 use Rattle.files.proofs.LineSound.{Known, Behind, data-known, key-behind, record-spelled}

@@ -11,9 +11,10 @@ use Rattle.records.specs.Marks.{Named}
 use Rattle.records.specs.Automaton.{sameName, isAmong}
 use Rattle.records.specs.declared.State.{State}
 use Rattle.permitted.proofs.Basics.{not-both, bytes-true, bytes-self}
-use Rattle.reading.specs.Walks as walk
-use Rattle.reading.specs.Walks.{Trace, traceOf}
-use Rattle.reading.specs.Names.{sameText, sameNames, leadsComponent, usedIn, isUsed, repeatIn}
+use Rattle.walking.specs.Walks as walk
+use Rattle.walking.specs.Walks.{Trace, traceOf}
+use Rattle.spans.specs.Texts.{sameTexts}
+use Rattle.naming.specs.Names.{sameNames, leadsComponent, usedIn, isUsed, repeatIn}
 use Rattle.files.proofs.RowColumns.{nameAt}
 use Rattle.files.proofs.Traced.{Follows, done, stop, skip, row, trace-follows}
 
@@ -35,8 +36,8 @@ bytes-turned a b = go (sameBytes a b) (sameBytes b a) refl refl
     go false true h i = absurd (not-both (bytes-self b) (rw (sym (bytes-true b a i)) at h))
     go false false h i = refl
 
-names-turned : (file : List ℕ) (x y : List ℤ) → sameNames file x y ≡ sameName (nameAt file y) (nameAt file x)
-unfolding sameNames sameText
+names-turned : (file : List ℕ) (x y : List ℤ) → sameNames file x file y ≡ sameName (nameAt file y) (nameAt file x)
+unfolding sameNames sameTexts
 names-turned file x y = rw (bytes-turned (nameAt file x .geometry) (nameAt file y .geometry), bytes-turned (nameAt file x .number) (nameAt file y .number))
 
 or-false : (a : Bool) → (a || false) ≡ a
@@ -59,7 +60,7 @@ module _ (file : List ℕ) where
     unfolding usedIn
     kept-row i n y h = i n y (omega arith) ∙ rw (lt-ltb k n (omega arith)) (go (leadsComponent x))
       where
-        go : (b : Bool) → (isAmong (nameAt file y) used || (b && sameNames file x y || usedIn file n y t)) ≡ (isAmong (nameAt file y) (cond b (nameAt file x ∷ used) used) || usedIn file n y t)
+        go : (b : Bool) → (isAmong (nameAt file y) used || (b && sameNames file x file y || usedIn file n y t)) ≡ (isAmong (nameAt file y) (cond b (nameAt file x ∷ used) used) || usedIn file n y t)
         go true = rw (names-turned file x y) (or-turned (isAmong (nameAt file y) used) (sameName (nameAt file y) (nameAt file x)) (usedIn file n y t))
         go false = refl
 

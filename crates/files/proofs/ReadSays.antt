@@ -8,8 +8,8 @@ use lib.ListN.{length}
 use Rattle.form.specs.Values.{Rec}
 use Rattle.form.specs.declared.Rules.the-variants.{Idf3}
 use Rattle.lines.specs.Rows.{width}
-use Rattle.reading.specs.Walks.{limit}
-use Rattle.reading.specs.Replies.{reply, rowsOf, over, readReply, readRows}
+use Rattle.records.specs.Answers.{limit, reply, over}
+use Rattle.reading.specs.Replies.{rowsOf, readReply, readRows}
 use Rattle.files.specs.WholeRules.{FileSays}
 use Rattle.files.proofs.Checked.{check-count}
 

@@ -24,8 +24,9 @@ use Rattle.loops.specs.Loops.{eqZ}
 use Rattle.records.specs.Automaton.{isRole}
 use Rattle.permitted.proofs.Basics.{other, at-each, both}
 use Rattle.permitted.proofs.Tables.{component-fields}
-use Rattle.reading.specs.Judging.{columnAt, pointIn, typeInRow}
-use Rattle.reading.specs.Names.{textAt, leadsComponent}
+use Rattle.walking.specs.Judging.{columnAt, pointIn, typeInRow}
+use Rattle.spans.specs.Texts.{textAt}
+use Rattle.naming.specs.Names.{leadsComponent}
 
 -- the component in the row of a leading line: the texts of its first two fields
 abbrev pub nameAt : List ℕ → List ℤ → Named

@@ -18,7 +18,7 @@ use Rattle.lines.proofs.MeaningLaws.{means-one, means-wide}
 use Rattle.records.specs.Marks.{Named}
 use Rattle.records.specs.Automaton.{start, repeats, noted}
 use Rattle.records.specs.declared.State.{State}
-use Rattle.reading.specs.Walks.{Trace}
+use Rattle.walking.specs.Walks.{Trace}
 use Rattle.reading.specs.Replies.{rowsIn, rowsOf}
 use Rattle.files.specs.Told.{says, wrong, Told, ended, broken, afterNothing, afterRecord, goOn, toldFrom}
 use Rattle.files.specs.Outcomes as rows

@@ -19,11 +19,11 @@ use Rattle.lines.specs.Meaning.{Holds}
 use Rattle.lines.proofs.MeaningLaws.{part-cut}
 use Rattle.records.specs.Automaton.{start}
 use Rattle.records.specs.declared.State.{State}
-use Rattle.reading.specs.Walks as walk
-use Rattle.reading.specs.Walks.{begun, lineIn, turnOf, Trace, traceBy, traceAt, traceOf}
-use Rattle.reading.specs.declared.Judged.{Judged}
-use Rattle.reading.specs.declared.Walk.{Walk}
-use Rattle.reading.proofs.WalkLaws.{trace-end, trace-step}
+use Rattle.walking.specs.Walks as walk
+use Rattle.walking.specs.Walks.{begun, lineIn, turnOf, Trace, traceBy, traceAt, traceOf}
+use Rattle.walking.specs.declared.Judged.{Judged}
+use Rattle.walking.specs.declared.Walk.{Walk}
+use Rattle.walking.proofs.WalkLaws.{trace-end, trace-step}
 use Rattle.files.specs.Told.{Said, nothing, says, wrong, lineSays}
 use Rattle.files.proofs.LineJoined.{Joined, line-joined}
 

@@ -9,8 +9,8 @@ use Rattle.form.specs.Layouts.{typesOf}
 use Rattle.form.specs.declared.Rules.the-variants.{Idf3}
 use Rattle.lines.specs.Meaning.{Holds}
 use Rattle.records.specs.Automaton.{accepting}
-use Rattle.reading.specs.Replies.{reply}
-use Rattle.reading.specs.declared.Reply.{Reply}
+use Rattle.records.specs.Answers.{reply}
+use Rattle.records.specs.declared.Reply.{Reply}
 use Rattle.files.specs.Told.{Told, ended, broken}
 
 -- n lines: as many rows as records; 13 where more lines are needed; or the first refused line, counted from 1, and its number

@@ -1,5 +1,1 @@
-pub mod PaddedLaws
-pub mod NameLaws
-pub mod KindLaws
-pub mod TableLaws
-pub mod RowLaws
+pub mod CompareLaws

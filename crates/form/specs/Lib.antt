@@ -6,5 +6,3 @@ pub mod Kinds
 pub mod Layouts
 pub mod Fits
 pub mod Reading
-pub mod Padded
-pub mod Letters

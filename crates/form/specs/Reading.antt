@@ -6,7 +6,7 @@ use mathlib.Core.Bool.{true, false, cond}
 use lib.Dec.{eqb}
 use lib.ListN.{length}
 use Rattle.text.specs.Bytes.{permitted, allOf, begins, Field, field}
-use Rattle.text.specs.Fields.{fieldsOf}
+use Rattle.cutting.specs.Fields.{fieldsOf}
 use Rattle.measure.specs.Limits.{largestLength}
 use Rattle.measure.specs.Numbers.{readNumber}
 use Rattle.measure.specs.Integers.{readInteger}

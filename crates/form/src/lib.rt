@@ -1,6 +1,4 @@
-// The format as tables: sections, keywords, words, field types, the layout of each kind of line. Lookups take the rules of a version.
-pub mod layouts;
-pub mod names;
+// The format as definitions: sections, keywords, words, field types, the layout of each kind of line. `layouts` and `words` look them up.
 
 // The version of the format whose rules hold.
 pub enum Rules {
@@ -57,16 +55,4 @@ pub enum Keyword {
     Opening(u64),
     Closing(u64),
     Unknown,
-}
-
-// The place of a word in its list, from 0.
-pub enum Found {
-    At(u64),
-    Nowhere,
-}
-
-// Some rows of a table, one after the other.
-pub struct Span {
-    pub first: usize,
-    pub count: usize,
 }

@@ -11,34 +11,18 @@ use lib.ListN.{length}
 use Rattle.measure.proofs.SignLaws.{back}
 use Rattle.form.specs.Names.{boardWord}
 use Rattle.loops.specs.Loops.{eqZ}
-use Rattle.reading.specs.declared.Found.{Found}
-use Rattle.reading.specs.declared.Found.the-variants.{Row, Nothing, Refused}
-use Rattle.reading.specs.declared.Walk.{Walk}
-use Rattle.reading.specs.declared.Turn.{Turn}
-use Rattle.reading.specs.Judging.{columnAt}
-use Rattle.reading.specs.Walks.{limit, begun, turnOf, stopsBy, isRow, Steady, Trace, traceBy, traceAt}
-use Rattle.reading.proofs.WalkLaws.{Going, going-start, going-trace, going-less, going-more, going-end}
-use Rattle.judging.specs.Entries.{noReference, textIs, sameIn, sameEntry, refers, isOf, isEntry, entryIn, hasEntry, lacksEntry, lacks}
-
-abbrev pub column : List ℤ → ℕ → ℤ
-column row i = back (columnAt row i)
-
--- an entry's name is two texts
-module _ (library : List ℕ) (y : List ℤ) (board : List ℕ) (x : List ℤ) (p : Bool)
-    (f1 : SFits w64 (columnAt y 1)) (f2 : SFits w64 (columnAt y 2)) (g1 : SFits w64 (columnAt x 1)) (g2 : SFits w64 (columnAt x 2))
-    (e : p ≡ sameIn library (column y 1) (column y 2) board (column x 1) (column x 2)) where
-  first-text : p ≡ sameIn library (columnAt y 1) (columnAt y 2) board (columnAt x 1) (columnAt x 2)
-  first-text = e ∙ rw (toZ-ofZ w64 (columnAt y 1) f1, toZ-ofZ w64 (columnAt y 2) f2, toZ-ofZ w64 (columnAt x 1) g1, toZ-ofZ w64 (columnAt x 2) g2)
-
-  pub entry-not : p ≡ false → false ≡ sameEntry library y board x
-  unfolding sameEntry
-  entry-not h = rw (sym first-text ∙ h)
-
-  pub entry-by : (q : Bool) → p ≡ true → SFits w64 (columnAt y 3) → SFits w64 (columnAt y 4) → SFits w64 (columnAt x 3) → SFits w64 (columnAt x 4)
-      → q ≡ sameIn library (column y 3) (column y 4) board (column x 3) (column x 4) → q ≡ sameEntry library y board x
-  unfolding sameEntry
-  entry-by q h f3 f4 g3 g4 i =
-      rw (sym first-text ∙ h) (i ∙ rw (toZ-ofZ w64 (columnAt y 3) f3, toZ-ofZ w64 (columnAt y 4) f4, toZ-ofZ w64 (columnAt x 3) g3, toZ-ofZ w64 (columnAt x 4) g4))
+use Rattle.walking.specs.declared.Found.{Found}
+use Rattle.walking.specs.declared.Found.the-variants.{Row, Nothing, Refused}
+use Rattle.walking.specs.declared.Walk.{Walk}
+use Rattle.walking.specs.declared.Turn.{Turn}
+use Rattle.walking.specs.Judging.{columnAt}
+use Rattle.records.specs.Answers.{limit}
+use Rattle.walking.specs.Walks.{begun, turnOf, stopsBy, isRow, Steady, Trace, traceBy, traceAt}
+use Rattle.walking.proofs.WalkLaws.{Going, going-start, going-trace, going-less, going-more, going-end}
+use Rattle.spans.specs.Texts.{textIs}
+use Rattle.naming.specs.Names.{sameNames}
+use Rattle.walking.proofs.LineLaws.{column}
+use Rattle.judging.specs.Entries.{noReference, refers, isOf, isEntry, entryIn, hasEntry, lacksEntry, lacks}
 
 pub refers-by : (board : List ℕ) (x : List ℤ) (word : List ℕ) (r : Bool) → SFits w64 (columnAt x 5) → SFits w64 (columnAt x 6)
     → r ≡ textIs board (column x 5) (column x 6) word → r ≡ refers board x word
@@ -61,7 +45,7 @@ module _ (library : List ℕ) (t : Turn) (k : ℤ) (board : List ℕ) (x : List 
   unfolding isEntry
   no-entry h = rw (sym (e ∙ ap (isOf t) (toZ-ofZ w64 k f)) ∙ h)
 
-  pub entry-here : (q : Bool) → p ≡ true → q ≡ sameEntry library (t .row) board x → q ≡ isEntry library t k board x
+  pub entry-here : (q : Bool) → p ≡ true → q ≡ sameNames library (t .row) board x → q ≡ isEntry library t k board x
   unfolding isEntry
   entry-here q h i = rw (sym (e ∙ ap (isOf t) (toZ-ofZ w64 k f)) ∙ h) i
 
@@ -70,14 +54,14 @@ and-assoc true b c = refl
 and-assoc false b c = refl
 
 module _ (library : List ℕ) (k : ℤ) (board : List ℕ) (x : List ℤ) (l : ℕ) (y : List ℤ) (t : Trace) where
-  entry-on : (f : Found) → stopsBy f ≡ false → (isRow f && (eqZ (columnAt y 0) k && sameEntry library y board x)) ≡ false
+  entry-on : (f : Found) → stopsBy f ≡ false → (isRow f && (eqZ (columnAt y 0) k && sameNames library y board x)) ≡ false
       → entryIn library k board x (traceBy f l y t) ≡ entryIn library k board x t
   unfolding entryIn
   entry-on Row h g = rw g
   entry-on Nothing h g = refl
   entry-on (Refused m) h g = absurd (true≢false h)
 
-  entry-found : (f : Found) → (isRow f && (eqZ (columnAt y 0) k && sameEntry library y board x)) ≡ true → entryIn library k board x (traceBy f l y t) ≡ true
+  entry-found : (f : Found) → (isRow f && (eqZ (columnAt y 0) k && sameNames library y board x)) ≡ true → entryIn library k board x (traceBy f l y t) ≡ true
   unfolding entryIn
   entry-found Row g = rw g
   entry-found Nothing g = absurd (false≢true g)
@@ -110,9 +94,9 @@ module _ (library : List ℕ) (k : ℤ) (board : List ℕ) (x : List ℤ) (w : W
     stop-none j = sym (entry-none library k board x (w .line) (t .row) (traceAt library (t .walk)) (t .found) j) ∙ sought
 
     module _ (z : Bool) (d : z ≡ isEntry library t k board x) where
-      here : z ≡ (isRow (t .found) && (eqZ (columnAt (t .row) 0) k && sameEntry library (t .row) board x))
+      here : z ≡ (isRow (t .found) && (eqZ (columnAt (t .row) 0) k && sameNames library (t .row) board x))
       unfolding isEntry isOf
-      here = d ∙ and-assoc (isRow (t .found)) (eqZ (columnAt (t .row) 0) k) (sameEntry library (t .row) board x)
+      here = d ∙ and-assoc (isRow (t .found)) (eqZ (columnAt (t .row) 0) k) (sameNames library (t .row) board x)
 
       here-found : z ≡ true → true ≡ hasEntry library k board x
       here-found j = sym (entry-found library k board x (w .line) (t .row) (traceAt library (t .walk)) (t .found) (sym here ∙ j)) ∙ sought

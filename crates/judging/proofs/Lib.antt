@@ -1,5 +1,3 @@
-pub mod TextLaws
 pub mod EntryLaws
-pub mod StockLaws
 pub mod StockTrue
 pub mod VerdictLaws

@@ -14,11 +14,14 @@ use Rattle.slots.specs.Looks.{looks}
 use Rattle.slots.specs.Slots as slot
 use Rattle.slots.specs.Slots.{holds}
 use Rattle.slots.proofs.SlotLaws.{placed-length, placed-all, held-sound}
-use Rattle.reading.specs.Judging.{columnAt}
-use Rattle.reading.specs.Walks.{Trace, done, stop, skip, row, traceOf}
-use Rattle.reading.specs.Marks.{keyOf}
-use Rattle.judging.specs.Entries.{textIs, sameIn, sameEntry, entryIn, hasEntry}
-use Rattle.judging.specs.Stock.{kindFor, codeFor, packOf, packedRow, isNamed, holdsName, stockedRow, stockIn, stockOf, Stocked}
+use Rattle.walking.specs.Judging.{columnAt}
+use Rattle.walking.specs.Walks.{Trace, done, stop, skip, row, traceOf}
+use Rattle.naming.specs.Marks.{keyOf}
+use Rattle.spans.specs.Texts.{textIs, sameTexts}
+use Rattle.naming.specs.Names.{sameNames}
+use Rattle.judging.specs.Entries.{entryIn, hasEntry}
+use Rattle.judging.specs.Stocked.{Stocked}
+use Rattle.stock.specs.Stock.{kindFor, codeFor, packOf, packedRow, isNamed, holdsName, stockedRow, stockIn, stockOf}
 
 -- an empty slot holds no name
 empty-none : (library : List ℕ) (k : Bool) (board : List ℕ) (x : List ℤ) → holdsName library k board x 0 ≡ false
@@ -27,7 +30,7 @@ empty-none library true board x = refl
 empty-none library false board x = refl
 
 abbrev namesOf : List ℕ → ℕ → ℕ → ℕ → ℕ → List ℕ → List ℤ → Bool
-namesOf library a l b m board x = sameIn library (pos a) (pos l) board (columnAt x 1) (columnAt x 2) && sameIn library (pos b) (pos m) board (columnAt x 3) (columnAt x 4)
+namesOf library a l b m board x = sameTexts library (pos a) (pos l) board (columnAt x 1) (columnAt x 2) && sameTexts library (pos b) (pos m) board (columnAt x 3) (columnAt x 4)
 
 -- a number tells what was put into it
 module _ (library : List ℕ) (a l b m : ℕ) (board : List ℕ) (x : List ℤ) (h1 : a ≤ 16_777_216) (h2 : l ≤ 255) (h3 : m ≤ 255) (h4 : a + l ≤ b) (h5 : b - (a + l) ≤ 255) (c : ℕ) (hc : c ≤ 2) where
@@ -92,8 +95,8 @@ pack-true library j k a l b m board x =
         whole-true library j k a l b m board x (ltb-false 16_777_216 a e1) (ltb-false 255 l e2) (ltb-false 255 m e3) (ltb-false b (a + l) e4) (ltb-false 255 (b - (a + l)) e5) h
 
 -- two texts by their starts and lengths without sign
-row-true : (library : List ℕ) (j k : Bool) (y : List ℤ) (board : List ℕ) (x : List ℤ) → holdsName library j board x (packedRow k y) ≡ true → (j ≡ k) × (sameEntry library y board x ≡ true)
-unfolding packedRow sameEntry sameIn textIs
+row-true : (library : List ℕ) (j k : Bool) (y : List ℤ) (board : List ℕ) (x : List ℤ) → holdsName library j board x (packedRow k y) ≡ true → (j ≡ k) × (sameNames library y board x ≡ true)
+unfolding packedRow sameNames sameTexts textIs
 row-true library j k y board x h =
     let p = pack-true library j k (natAbs (columnAt y 1)) (natAbs (columnAt y 2)) (natAbs (columnAt y 3)) (natAbs (columnAt y 4)) board x h in
     (p .kind, p .names)
@@ -103,7 +106,7 @@ module _ (library places : List ℕ) (y : List ℤ) (s : Stocked library places)
   abbrev Has : ℕ → Type 0
   Has e = (j : Bool) (board : List ℕ) (x : List ℤ) → holdsName library j board x e ≡ true → hasEntry library (kindFor j) board x ≡ true
 
-  put-true : (k : Bool) → ((board : List ℕ) (x : List ℤ) → sameEntry library y board x ≡ true → hasEntry library (kindFor k) board x ≡ true)
+  put-true : (k : Bool) → ((board : List ℕ) (x : List ℤ) → sameNames library y board x ≡ true → hasEntry library (kindFor k) board x ≡ true)
       → Stocked library (slot.placed places (keyOf library y) (packedRow k y))
   put-true k g = record {
     room = rw (placed-length places (keyOf library y) (packedRow k y)) (s .room);
@@ -112,7 +115,7 @@ module _ (library places : List ℕ) (y : List ℤ) (s : Stocked library places)
         ap (λ (i : Bool). hasEntry library (kindFor i) board x) (r .0) ∙ g board x (r .1));
   }
 
-  stocked-true : ((k : ℤ) (board : List ℕ) (x : List ℤ) → (eqZ (columnAt y 0) k && sameEntry library y board x) ≡ true → hasEntry library k board x ≡ true)
+  stocked-true : ((k : ℤ) (board : List ℕ) (x : List ℤ) → (eqZ (columnAt y 0) k && sameNames library y board x) ≡ true → hasEntry library k board x ≡ true)
       → Stocked library (stockedRow library places y)
   unfolding stockedRow
   stocked-true g = go (eqZ (columnAt y 0) (pos 141)) (eqZ (columnAt y 0) (pos 151)) refl refl
@@ -142,8 +145,8 @@ stock-in library places (stop n l) g s = s
 stock-in library places (skip l t) g s = stock-in library places t g s
 stock-in library places (row l y t) g s =
     stock-in library (stockedRow library places y) t
-    (λ k board x h. g k board x (or-right (eqZ (columnAt y 0) k && sameEntry library y board x) (entryIn library k board x t) h))
-    (stocked-true library places y s (λ k board x h. g k board x (or-left (eqZ (columnAt y 0) k && sameEntry library y board x) (entryIn library k board x t) h)))
+    (λ k board x h. g k board x (or-right (eqZ (columnAt y 0) k && sameNames library y board x) (entryIn library k board x t) h))
+    (stocked-true library places y s (λ k board x h. g k board x (or-left (eqZ (columnAt y 0) k && sameNames library y board x) (entryIn library k board x t) h)))
 
 stock-true : (library places : List ℕ) → Stocked library places → Stocked library (stockOf library places)
 unfolding stockOf hasEntry

@@ -12,19 +12,20 @@ use Rattle.form.specs.declared.FileType.{FileType}
 use Rattle.form.specs.declared.FileType.the-variants.{Board, Panel, Library}
 use Rattle.loops.specs.Loops.{eqZ}
 use Rattle.records.specs.Marks.{isLibrary}
-use Rattle.reading.specs.declared.Found.{Found}
-use Rattle.reading.specs.declared.Found.the-variants.{Row, Nothing, Refused}
-use Rattle.reading.specs.declared.Reply.{Reply}
-use Rattle.reading.specs.declared.Walk.{Walk}
-use Rattle.reading.specs.declared.Turn.{Turn}
-use Rattle.reading.specs.Judging.{columnAt, typeInRow}
-use Rattle.reading.specs.Walks.{limit, begun, turnOf, stopsBy, isRow, Steady, Trace, traceBy, traceAt}
-use Rattle.reading.specs.Names.{repeatOf}
-use Rattle.reading.specs.Replies.{reply, survey, checkReply}
-use Rattle.reading.proofs.WalkLaws.{Going, going-start, going-trace, going-past, going-less, going-more, going-end}
-use Rattle.judging.specs.declared.Verdict.{Verdict}
+use Rattle.walking.specs.declared.Found.{Found}
+use Rattle.walking.specs.declared.Found.the-variants.{Row, Nothing, Refused}
+use Rattle.records.specs.declared.Reply.{Reply}
+use Rattle.walking.specs.declared.Walk.{Walk}
+use Rattle.walking.specs.declared.Turn.{Turn}
+use Rattle.walking.specs.Judging.{columnAt, typeInRow}
+use Rattle.records.specs.Answers.{limit, reply, verdict}
+use Rattle.walking.specs.Walks.{begun, turnOf, stopsBy, isRow, Steady, Trace, traceBy, traceAt}
+use Rattle.naming.specs.Names.{repeatOf}
+use Rattle.reading.specs.Replies.{survey, checkReply}
+use Rattle.walking.proofs.WalkLaws.{Going, going-start, going-trace, going-past, going-less, going-more, going-end}
+use Rattle.records.specs.declared.Verdict.{Verdict}
 use Rattle.judging.specs.Entries.{isOf, lacksEntry, lacks}
-use Rattle.judging.specs.Verdicts.{verdict, refusedAs, typeFrom, typeOf, numbered, placedFrom, placed, served, matched, withLibrary, judgeReply}
+use Rattle.judging.specs.Verdicts.{refusedAs, typeFrom, typeOf, numbered, placedFrom, placed, served, matched, withLibrary, judgeReply}
 
 -- a file's type, line by line
 module _ (l : ℕ) (y : List ℤ) (t : Trace) where

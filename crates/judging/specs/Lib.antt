@@ -1,3 +1,3 @@
 pub mod Entries
-pub mod Stock
+pub mod Stocked
 pub mod Verdicts

@@ -8,16 +8,14 @@ use Rattle.form.specs.declared.FileType.{FileType}
 use Rattle.form.specs.declared.FileType.the-variants.{Library}
 use Rattle.loops.specs.Loops.{eqZ}
 use Rattle.records.specs.Marks.{isLibrary}
-use Rattle.reading.specs.declared.Reply.{Reply}
-use Rattle.reading.specs.declared.Turn.{Turn}
-use Rattle.reading.specs.Judging.{columnAt, typeInRow}
-use Rattle.reading.specs.Walks.{Trace, done, stop, skip, row, traceOf}
+use Rattle.records.specs.declared.Reply.{Reply}
+use Rattle.walking.specs.declared.Turn.{Turn}
+use Rattle.walking.specs.Judging.{columnAt, typeInRow}
+use Rattle.walking.specs.Walks.{Trace, done, stop, skip, row, traceOf}
 use Rattle.reading.specs.Replies.{checkReply}
-use Rattle.judging.specs.declared.Verdict.{Verdict}
+use Rattle.records.specs.declared.Verdict.{Verdict}
+use Rattle.records.specs.Answers.{verdict}
 use Rattle.judging.specs.Entries.{isOf, lacksEntry}
-
-abbrev pub verdict : ℕ → ℕ → ℕ → ℕ → Verdict
-verdict number line count which = record { number = number; line = line; count = count; which = which }
 
 -- a file's own refusal
 abbrev pub refusedAs : Reply → ℕ → Verdict

@@ -1,26 +1,15 @@
 // The entries of a library, and what the placements of a board need of them.
-use crate::stock;
-use crate::texts;
 use lines::WIDTH;
 use loops::same;
-use reading::Turn;
-use reading::walking;
+use walking::Turn;
+use walking::steps;
 ghost use mathlib.Core.Path.{_≡_};
 ghost use Prim.Native.Nat.{_≤_};
 ghost use lib.ListN.{length};
-ghost use Rattle.reading.specs.Walks.{limit};
-ghost use Rattle.judging.specs.Entries.{sameEntry, refers, isOf, isEntry, hasEntry, lacksEntry, lacks};
-ghost use Rattle.judging.specs.Stock.{kindFor, Stocked};
-
-// Whether a row of a library has the geometry and part that a placement has as package and part number.
-fn same_entry(library: &[u8], y: [i64; WIDTH], board: &[u8], x: [i64; WIDTH]) -> bool
-    ensures { λ r. ⌜ r ≡ sameEntry (now (library .entry)) y (now (board .entry)) x ⌝ }
-{
-    if texts::same_in(library, y[1], y[2], board, x[1], x[2]) {
-        return texts::same_in(library, y[3], y[4], board, x[3], x[4]);
-    }
-    false
-}
+ghost use Rattle.records.specs.Answers.{limit};
+ghost use Rattle.judging.specs.Entries.{refers, isOf, isEntry, hasEntry, lacksEntry, lacks};
+ghost use Rattle.judging.specs.Stocked.{Stocked};
+ghost use Rattle.stock.specs.Stock.{kindFor};
 
 // Whether a line is a row of this kind.
 pub fn is_of(t: Turn, kind: i64) -> bool
@@ -28,7 +17,7 @@ pub fn is_of(t: Turn, kind: i64) -> bool
 {
     let found = t.found;
     let row = t.row;
-    if walking::is_row(found) {
+    if steps::is_row(found) {
         return same(row[0], kind);
     }
     false
@@ -40,7 +29,7 @@ fn is_entry(library: &[u8], t: Turn, kind: i64, board: &[u8], x: [i64; WIDTH]) -
 {
     let row = t.row;
     if is_of(t, kind) {
-        return same_entry(library, row, board, x);
+        return naming::same_names(library, row, board, x);
     }
     false
 }
@@ -50,12 +39,12 @@ fn has_entry(library: &[u8], kind: i64, board: &[u8], x: [i64; WIDTH]) -> bool
     requires { ⌜ length (now library) ≤ limit ⌝ }
     ensures { λ r. ⌜ r ≡ hasEntry (now (library .entry)) kind (now (board .entry)) x ⌝ }
 {
-    let mut w = walking::begin();
+    let mut w = steps::begin();
     let mut at = 0;
     while at < library.len() {
-        let t = walking::turn(library, w);
+        let t = steps::turn(library, w);
         let found = t.found;
-        if walking::stops(found) {
+        if steps::stops(found) {
             return false;
         }
         if is_entry(library, t, kind, board, x) {
@@ -71,7 +60,7 @@ fn has_entry(library: &[u8], kind: i64, board: &[u8], x: [i64; WIDTH]) -> bool
 fn refers(board: &[u8], x: [i64; WIDTH], word: &[u8]) -> bool
     ensures { λ r. ⌜ r ≡ refers (now (board .entry)) x (now (word .entry)) ⌝ }
 {
-    texts::text_is(board, x[5], x[6], word)
+    spans::text_is(board, x[5], x[6], word)
 }
 
 // The kind of an electrical or a mechanical component.

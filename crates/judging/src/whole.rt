@@ -1,20 +1,19 @@
 // A whole board or panel, judged against a whole library.
-use crate::Verdict;
 use crate::entries;
-use crate::stock;
 use form::FileType;
-use reading::Reply;
-use reading::Turn;
-use reading::line;
-use reading::walking;
 use reading::whole;
+use records::Reply;
+use records::Verdict;
+use walking::Turn;
+use walking::line;
+use walking::steps;
 ghost use mathlib.Core.Path.{_≡_};
 ghost use Prim.Native.Nat.{_^_, _≤_, _<_};
 ghost use lib.ListN.{length};
 ghost use Rattle.records.specs.Marks.{isLibrary};
-ghost use Rattle.reading.specs.Walks.{limit};
-ghost use Rattle.judging.specs.Stock.{Stocked};
-ghost use Rattle.judging.specs.Verdicts.{verdict, refusedAs, typeOf, numbered, placed, served, matched, withLibrary, judgeReply};
+ghost use Rattle.records.specs.Answers.{limit, verdict};
+ghost use Rattle.judging.specs.Stocked.{Stocked};
+ghost use Rattle.judging.specs.Verdicts.{refusedAs, typeOf, numbered, placed, served, matched, withLibrary, judgeReply};
 
 // How many slots there are for a library's components, 512 KiB of them.
 const PLACES: usize = 65_536;
@@ -59,13 +58,13 @@ fn file_type(file: &[u8]) -> FileType
     requires { ⌜ length (now file) ≤ limit ⌝ }
     ensures { λ r. ⌜ r ≡ typeOf (now (file .entry)) ⌝ }
 {
-    let mut w = walking::begin();
+    let mut w = steps::begin();
     let mut at = 0;
     while at < file.len() {
-        let t = walking::turn(file, w);
+        let t = steps::turn(file, w);
         let found = t.found;
         let row = t.row;
-        if walking::stops(found) {
+        if steps::stops(found) {
             return FileType::Library;
         }
         if entries::is_of(t, 11) {
@@ -93,13 +92,13 @@ fn placed_by(library: &[u8], places: &[u64], board: &[u8]) -> Verdict
     requires { ⌜ (length (now library) ≤ limit) × (length (now board) ≤ limit) × Stocked (now library) (now places) ⌝ }
     ensures { λ r. ⌜ r ≡ placed (now (library .entry)) (now (board .entry)) ⌝ }
 {
-    let mut w = walking::begin();
+    let mut w = steps::begin();
     let mut at = 0;
     let mut n = 0;
     while at < board.len() {
-        let t = walking::turn(board, w);
+        let t = steps::turn(board, w);
         let found = t.found;
-        if walking::stops(found) {
+        if steps::stops(found) {
             return verdict(0, n, 0);
         }
         n = numbered(n, t);
@@ -118,7 +117,7 @@ fn placed(library: &[u8], board: &[u8]) -> Verdict
     ensures { λ r. ⌜ r ≡ placed (now (library .entry)) (now (board .entry)) ⌝ }
 {
     let mut places: [u64; PLACES] = [0; PLACES];
-    stock::stock(library, &mut places);
+    stock::fill(library, &mut places);
     placed_by(library, &places, board)
 }
 

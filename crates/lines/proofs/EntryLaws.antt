@@ -11,11 +11,11 @@ use lib.IntN.{ℤ}
 use lib.ListN.{length, take, drop, length-drop}
 use lib.Seq.{drop-drop}
 use Rattle.text.specs.Bytes.{field}
-use Rattle.text.specs.FirstField.{fieldOf}
-use Rattle.text.specs.declared.FieldAnswer.{FieldAnswer}
-use Rattle.text.specs.declared.FieldAnswer.the-variants.{Nothing, Got, Broken}
+use Rattle.cutting.specs.FirstField.{fieldOf}
+use Rattle.cutting.specs.declared.FieldAnswer.{FieldAnswer}
+use Rattle.cutting.specs.declared.FieldAnswer.the-variants.{Nothing, Got, Broken}
 use Rattle.text.proofs.Lists.{rest}
-use Rattle.text.proofs.Bounds.{Lies, Bounded, bounded}
+use Rattle.cutting.proofs.Bounds.{Lies, Bounded, bounded}
 use Rattle.measure.proofs.SignLaws.{back}
 use Rattle.form.specs.Values.{Value, number, word, text, Reply, good, refused}
 use Rattle.form.specs.Reading.{readField}

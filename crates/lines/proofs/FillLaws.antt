@@ -15,10 +15,10 @@ use lib.Dec.{eqb}
 use native.Mathlib.Numerals.{add-one}
 use borrow.Author.Tests.{eq-eqb, ne-eqb}
 use Rattle.text.specs.Bytes.{Field, field}
-use Rattle.text.specs.FirstField.{fieldOf}
-use Rattle.text.specs.declared.FieldAnswer.{FieldAnswer}
-use Rattle.text.specs.declared.FieldAnswer.the-variants.{Nothing, Got, Broken}
-use Rattle.text.proofs.Bounds.{Bounded, bounded}
+use Rattle.cutting.specs.FirstField.{fieldOf}
+use Rattle.cutting.specs.declared.FieldAnswer.{FieldAnswer}
+use Rattle.cutting.specs.declared.FieldAnswer.the-variants.{Nothing, Got, Broken}
+use Rattle.cutting.proofs.Bounds.{Bounded, bounded}
 use Rattle.measure.specs.Limits.{largestLength}
 use Rattle.measure.specs.Numbers.{readNumber}
 use Rattle.measure.specs.Integers.{readInteger}
@@ -34,8 +34,8 @@ use Rattle.form.specs.Compare.{sameWord, up, placeOf}
 use Rattle.form.specs.Fits.{kept, within, beyond, meaning, barred}
 use Rattle.form.specs.Reading.{ofCount, ofInteger, ofPlace, readField}
 use Rattle.form.specs.Layouts.{typesOf}
-use Rattle.form.specs.Letters.{widthOf, widths, typeAt}
-use Rattle.form.proofs.KindLaws.{nine}
+use Rattle.layouts.specs.Letters.{widthOf, widths, typeAt}
+use Rattle.layouts.proofs.KindLaws.{nine}
 use Rattle.form.specs.declared.Rules.{Rules}
 use Rattle.form.specs.declared.Rules.the-variants.{Idf3}
 use Rattle.form.specs.declared.Context.{Context}

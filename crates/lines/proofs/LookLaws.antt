@@ -10,13 +10,13 @@ use mir.Syntax.{w64}
 use mir.Val.{Fits}
 use lib.ListN.{length, take, drop}
 use Rattle.text.specs.Bytes.{permitted, allOf, begins, Field, field}
-use Rattle.text.specs.FirstField.{fieldOf}
-use Rattle.text.specs.Fields.{before, fieldsBy, fieldsIn, fieldsOf, countBy, countOf}
-use Rattle.text.specs.declared.FieldAnswer.{FieldAnswer}
-use Rattle.text.specs.declared.FieldAnswer.the-variants.{Nothing, Got, Broken}
-use Rattle.text.specs.declared.CountAnswer.{CountAnswer}
-use Rattle.text.specs.declared.CountAnswer.the-variants.{Fields, Bad as BadCount}
-use Rattle.text.proofs.Bounds.{Lies, Bounded, bounded}
+use Rattle.cutting.specs.FirstField.{fieldOf}
+use Rattle.cutting.specs.Fields.{before, fieldsBy, fieldsIn, fieldsOf, countBy, countOf}
+use Rattle.cutting.specs.declared.FieldAnswer.{FieldAnswer}
+use Rattle.cutting.specs.declared.FieldAnswer.the-variants.{Nothing, Got, Broken}
+use Rattle.cutting.specs.declared.CountAnswer.{CountAnswer}
+use Rattle.cutting.specs.declared.CountAnswer.the-variants.{Fields, Bad as BadCount}
+use Rattle.cutting.proofs.Bounds.{Lies, Bounded, bounded}
 use Rattle.form.specs.Names.{propWord}
 use Rattle.form.specs.Compare.{sameWord, folded}
 use Rattle.form.specs.Reading.{keyLine, dataLine, byFirst, byFields, lineAs, keywordOf}

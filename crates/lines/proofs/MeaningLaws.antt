@@ -8,7 +8,7 @@ use lib.IntN.{ℤ}
 use lib.ListN.{length, take, drop, length-append, length-drop, take-append-drop}
 use lib.Seq.{drop-append-add, drop-append-le, take-append-le, length-take-le}
 use Rattle.form.specs.Values.{Value}
-use Rattle.form.specs.Letters.{widthOf, widths}
+use Rattle.layouts.specs.Letters.{widthOf, widths}
 use Rattle.form.specs.declared.FieldType.{FieldType}
 use Rattle.form.specs.declared.FieldType.the-variants.{Text as T, Reference as Ref, Date as D, Integer as I, Number as N, Word as W}
 use Rattle.lines.specs.Meaning.{isText, isNumber, Means, none, aNumber, aWord, aDate, aText, Part}

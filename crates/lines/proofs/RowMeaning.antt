@@ -11,10 +11,10 @@ use lib.IntN.{ℤ, pos}
 use lib.ListN.{length, take, drop, replicate, length-drop, length-append}
 use lib.Seq.{drop-drop, set-append-seam}
 use Rattle.text.specs.Bytes.{Field, field}
-use Rattle.text.specs.FirstField.{fieldOf}
-use Rattle.text.specs.Fields.{fieldsBy, fieldsIn, fieldsOf}
-use Rattle.text.specs.declared.FieldAnswer.{FieldAnswer}
-use Rattle.text.specs.declared.FieldAnswer.the-variants.{Nothing, Got, Broken}
+use Rattle.cutting.specs.FirstField.{fieldOf}
+use Rattle.cutting.specs.Fields.{fieldsBy, fieldsIn, fieldsOf}
+use Rattle.cutting.specs.declared.FieldAnswer.{FieldAnswer}
+use Rattle.cutting.specs.declared.FieldAnswer.the-variants.{Nothing, Got, Broken}
 use Rattle.measure.specs.Limits.{largestLength}
 use Rattle.measure.specs.Numbers.{readNumber}
 use Rattle.measure.specs.Integers.{readInteger}
@@ -29,8 +29,8 @@ use Rattle.form.specs.Compare.{placeOf}
 use Rattle.form.specs.Fits.{kept, within, beyond, meaning, barred}
 use Rattle.form.specs.Reading.{ofCount, ofInteger, ofPlace, readField, andThen, readEach, readFields}
 use Rattle.form.specs.Layouts.{typesOf}
-use Rattle.form.specs.Letters.{widthOf, widths}
-use Rattle.form.proofs.KindLaws.{nine}
+use Rattle.layouts.specs.Letters.{widthOf, widths}
+use Rattle.layouts.proofs.KindLaws.{nine}
 use Rattle.form.specs.declared.Context.{Context}
 use Rattle.form.specs.declared.Words.{Words}
 use Rattle.form.specs.declared.Limit.{Limit}

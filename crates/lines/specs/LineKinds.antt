@@ -4,9 +4,9 @@ use mathlib.Core.List.{List, [], _∷_}
 use mathlib.Core.Bool.{Bool, true, false, cond}
 use lib.ListN.{length, take, drop}
 use Rattle.text.specs.Bytes.{begins, Field, field}
-use Rattle.text.specs.FirstField.{fieldOf}
-use Rattle.text.specs.declared.FieldAnswer.{FieldAnswer}
-use Rattle.text.specs.declared.FieldAnswer.the-variants.{Nothing, Got, Broken}
+use Rattle.cutting.specs.FirstField.{fieldOf}
+use Rattle.cutting.specs.declared.FieldAnswer.{FieldAnswer}
+use Rattle.cutting.specs.declared.FieldAnswer.the-variants.{Nothing, Got, Broken}
 use Rattle.form.specs.Names.{propWord}
 use Rattle.form.specs.Compare.{sameWord, folded}
 use Rattle.form.specs.Reading.{Line, free, bad, keyLine, dataLine, lineAs, keywordOf}

@@ -6,13 +6,13 @@ use lib.Dec.{eqb}
 use lib.IntN.{ℤ, pos}
 use lib.ListN.{length, take, drop, set}
 use Rattle.text.specs.Bytes.{field}
-use Rattle.text.specs.FirstField.{fieldOf}
-use Rattle.text.specs.declared.FieldAnswer.{FieldAnswer}
-use Rattle.text.specs.declared.FieldAnswer.the-variants.{Nothing, Got, Broken}
+use Rattle.cutting.specs.FirstField.{fieldOf}
+use Rattle.cutting.specs.declared.FieldAnswer.{FieldAnswer}
+use Rattle.cutting.specs.declared.FieldAnswer.the-variants.{Nothing, Got, Broken}
 use Rattle.form.specs.Values.{Value, number, word, text, Reply, good, refused}
 use Rattle.form.specs.Layouts.{typesOf}
 use Rattle.form.specs.Reading.{readField}
-use Rattle.form.specs.Letters.{widthOf}
+use Rattle.layouts.specs.Letters.{widthOf}
 use Rattle.form.specs.declared.Context.{Context}
 use Rattle.form.specs.declared.FieldType.{FieldType}
 use Rattle.lines.specs.declared.Entry.{Entry}

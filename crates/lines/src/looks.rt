@@ -1,9 +1,9 @@
 // What a line is.
 use crate::LineKind;
-use text::CountAnswer;
-use text::FieldAnswer;
+use cutting::CountAnswer;
+use cutting::FieldAnswer;
 ghost use mathlib.Core.Path.{_≡_};
-ghost use Rattle.text.specs.FirstField.{fieldOf};
+ghost use Rattle.cutting.specs.FirstField.{fieldOf};
 ghost use Rattle.lines.specs.LineKinds.{kindOf, bareKind, firstBy};
 
 // A line by its bare first field, of n fields; the place behind the first is `after`.
@@ -11,9 +11,9 @@ fn bare_kind(w: &[u8], n: usize, after: usize) -> LineKind
     ensures { λ r. ⌜ r ≡ bareKind (now (w .entry)) n after ⌝ }
 {
     if text::begins_with(w, 46) {
-        LineKind::Key(form::names::read_keyword(w), n, after)
+        LineKind::Key(words::read_keyword(w), n, after)
     } else {
-        LineKind::Data(form::names::is_prop(w), n, after)
+        LineKind::Data(words::is_prop(w), n, after)
     }
 }
 
@@ -21,7 +21,7 @@ fn bare_kind(w: &[u8], n: usize, after: usize) -> LineKind
 fn first_kind(s: &[u8], n: usize) -> LineKind
     ensures { λ r. ⌜ r ≡ firstBy (fieldOf (now (s .entry))) (now (s .entry)) n ⌝ }
 {
-    match text::field(s) {
+    match cutting::field(s) {
         FieldAnswer::Nothing => LineKind::Free,
         FieldAnswer::Broken => LineKind::Bad(4),
         FieldAnswer::Got {
@@ -49,7 +49,7 @@ pub fn line_kind(s: &[u8]) -> LineKind
     if !text::clean(s) {
         return LineKind::Bad(3);
     }
-    match text::count_fields(s) {
+    match cutting::count_fields(s) {
         CountAnswer::Bad => LineKind::Bad(4),
         CountAnswer::Fields(n) => first_kind(s, n),
     }

@@ -2,10 +2,10 @@
 use crate::Entry;
 use crate::Filling;
 use crate::Placed;
+use cutting::FieldAnswer;
 use fields::FieldReply;
 use form::Context;
 use form::FieldType;
-use text::FieldAnswer;
 ghost use mathlib.Core.Path.{_≡_};
 ghost use Prim.Native.Nat.{_+_, _^_, _≤_, _<_};
 ghost use lib.IntN.{pos};
@@ -18,7 +18,7 @@ fn next_entry(c: Context, t: FieldType, s: &[u8], at: usize) -> Entry
     requires { ⌜ at ≤ length (now s) ⌝ }
     ensures { λ r. ⌜ r ≡ entryAt c t at (now (s .entry)) ⌝ }
 {
-    match text::field(&s[at..]) {
+    match cutting::field(&s[at..]) {
         FieldAnswer::Nothing => Entry::Refused(6),
         FieldAnswer::Broken => Entry::Refused(4),
         FieldAnswer::Got {
@@ -96,13 +96,13 @@ fn fill_row(c: Context, kind: u64, s: &[u8], base: usize, row: &mut [i64], from:
     ensures { λ r. ⌜ fillingOf (now (row .exit)) r ≡ fillFrom c base (now (s .entry)) (typesOf (c .rules) kind) (fillingAt (now (row .entry)) 1 from) ⌝ }
 {
     let v = c.rules;
-    let n = form::layouts::field_count(v, kind);
-    let layout = form::layouts::row_of(v, kind);
+    let n = layouts::field_count(v, kind);
+    let layout = layouts::row_of(v, kind);
     let mut column = 1;
     let mut at = from;
     let mut i = 0;
     while i < n {
-        let t = form::layouts::type_in(v, kind, layout, i);
+        let t = layouts::type_in(v, kind, layout, i);
         let p = put_field(c, t, s, base, row, column, at);
         let k = p.refused;
         if k != 0 {

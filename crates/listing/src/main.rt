@@ -1,6 +1,6 @@
 // The canonical printer: prints the canonical text of the file on standard input, or number, line and count of its refusal.
 use lines::WIDTH;
-use reading::Reply;
+use records::Reply;
 
 // The largest input.
 const LARGEST: usize = 4_096;

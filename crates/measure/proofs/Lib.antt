@@ -1,8 +1,2 @@
 pub mod Tests
 pub mod SignLaws
-pub mod NumberLaws
-pub mod NumberSpelling
-pub mod IntegerLaws
-pub mod IntegerSpelling
-pub mod DateLaws
-pub mod Cases

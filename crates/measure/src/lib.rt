@@ -1,10 +1,7 @@
-// Numbers: lengths, angles and integers, kept apart by kind. `read` takes them from the bytes of a field.
-pub mod read;
-
+// Numbers: lengths, angles and integers, kept apart by kind.
 ghost use mathlib.Core.Path.{_≡_};
-ghost use Prim.Native.Nat.{_^_, _<_};
 ghost use lib.IntN.{natAbs};
-ghost use Rattle.measure.specs.Signs.{below, signed};
+ghost use Rattle.measure.specs.Signs.{below};
 ghost use Rattle.measure.specs.Limits.{lengthOf, angleOf, includedOf, integerOf};
 
 // The magnitude of a signed number, of the smallest one too.
@@ -23,15 +20,6 @@ pub fn is_below(z: i64) -> bool
     ensures { λ r. ⌜ r ≡ below z ⌝ }
 {
     0 > z
-}
-
-// A sign and a magnitude as a signed number.
-pub(crate) fn value(neg: bool, n: u64) -> i64
-    requires { ⌜ n < 2 ^ 63 ⌝ }
-    ensures { λ r. ⌜ r ≡ signed neg n ⌝ }
-{
-    let v = n as i64;
-    if neg { -v } else { v }
 }
 
 // A length, as a count of hundred-thousandths of the file's unit.

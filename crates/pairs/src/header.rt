@@ -1,6 +1,6 @@
 // The columns of a case's header.
 use crate::saying;
-use comparing::Verdict;
+use records::Verdict;
 ghost use Prim.Native.Nat.{_<_, _≤_};
 ghost use mathlib.Core.Path.{_≡_};
 

@@ -18,8 +18,8 @@
 mod header;
 mod saying;
 
-use comparing::Verdict;
 use header::SIZE;
+use records::Verdict;
 use saying::say;
 ghost use Prim.Native.Nat.{_+_, _≤_};
 ghost use lib.ListN.{length};

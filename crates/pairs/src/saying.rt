@@ -1,5 +1,5 @@
 // What is written to standard output.
-use comparing::Verdict;
+use records::Verdict;
 
 // Bytes as they are.
 pub(crate) fn say(words: &[u8]) {

@@ -11,8 +11,7 @@ use Rattle.form.specs.Kinds.{Role, opening, point}
 use Rattle.form.specs.declared.Rules.{Rules}
 use Rattle.form.specs.declared.FileType.{FileType}
 use Rattle.records.specs.Marks.{shapeOf, manyLoops, labelOf, placeOf, angleOf, pointOf}
-use Rattle.loops.specs.Loops.{wholeTurn}
-use Rattle.loops.specs.Loops.{eqZ, samePlace, goesOn, reached, loopAfter, complete}
+use Rattle.loops.specs.Loops.{wholeTurn, eqZ, samePlace, goesOn, reached, loopAfter, complete}
 use Rattle.records.specs.Stages.{mayOpen, fileOf}
 use Rattle.records.specs.Automaton.{startOf, afterPoint, atPhase, advance, accepts}
 use Rattle.loops.specs.declared.Place.{Place}

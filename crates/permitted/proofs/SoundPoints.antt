@@ -11,8 +11,7 @@ use Rattle.form.specs.Kinds.{point}
 use Rattle.form.specs.declared.Rules.{Rules}
 use Rattle.form.specs.declared.FileType.{FileType}
 use Rattle.records.specs.Marks.{manyLoops, labelOf, placeOf, angleOf, pointOf}
-use Rattle.loops.specs.Loops.{wholeTurn}
-use Rattle.loops.specs.Loops.{eqZ, samePlace, begins, firstLabel, goesOn, closes, reached, loopAfter, complete}
+use Rattle.loops.specs.Loops.{wholeTurn, eqZ, samePlace, begins, firstLabel, goesOn, closes, reached, loopAfter, complete}
 use Rattle.loops.specs.declared.Place.{Place}
 use Rattle.loops.specs.declared.LoopState.{LoopState}
 use Rattle.loops.specs.declared.LoopState.the-variants.{NoPoint as noPoint, OnePoint as onePoint, Away as away, Back as back, Round as round}

@@ -16,8 +16,7 @@ use Rattle.form.specs.declared.Rules.{Rules}
 use Rattle.form.specs.declared.FileType.{FileType}
 use Rattle.form.specs.declared.FileType.the-variants.{Board as board, Panel as panel, Library as library}
 use Rattle.records.specs.Marks.{shapeOf, manyLoops, labelOf, placeOf, angleOf, pointOf, typeIn, namesAComponent, nameIn}
-use Rattle.loops.specs.Loops.{wholeTurn}
-use Rattle.loops.specs.Loops.{eqZ, reached, loopAfter, complete}
+use Rattle.loops.specs.Loops.{wholeTurn, eqZ, reached, loopAfter, complete}
 use Rattle.records.specs.Stages.{mayOpen, after, fileOf}
 use Rattle.records.specs.Places.{pointLine}
 use Rattle.records.specs.Automaton.{startOf, isRole, afterTitle, advance, accepting, accepts}

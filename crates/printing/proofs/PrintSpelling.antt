@@ -17,8 +17,8 @@ use Rattle.measure.specs.IntegerRules as int
 use Rattle.measure.specs.IntegerRules.{SpellsInteger}
 use Rattle.measure.specs.declared.NumberAnswer.the-variants.{Count}
 use Rattle.measure.specs.declared.WholeAnswer.the-variants.{Whole}
-use Rattle.measure.proofs.NumberSpelling.{number-complete}
-use Rattle.measure.proofs.IntegerSpelling.{integer-complete}
+use Rattle.measuring.proofs.NumberSpelling.{number-complete}
+use Rattle.measuring.proofs.IntegerSpelling.{integer-complete}
 
 pub digit : (d : ℕ) → d < 10 → Digit d (48 + d)
 digit d h = record { small = h; byte = refl }

@@ -2,7 +2,8 @@
 //
 // A reply is four numbers written into a lent array: number, line, count, and which of two files was refused, 0 if neither
 // was and 0 where there is one file only.
-use reading::Reply;
+use records::Reply;
+use records::Verdict;
 ghost use mathlib.Core.Path.{_≡_};
 ghost use lib.ListN.{length};
 ghost use Rattle.reading.specs.Replies.{checkReply, readReply, readRows};
@@ -10,7 +11,7 @@ ghost use Rattle.writing.specs.Outcomes.{writeReply, writeText};
 ghost use Rattle.comparing.specs.Verdicts.{sameReply};
 ghost use Rattle.judging.specs.Verdicts.{judgeReply};
 ghost use Rattle.viewer.specs.Views.{stepOf, placesAfter};
-ghost use Rattle.quayladle.specs.Numbers.{ofOne, ofSame, ofJudged, ofPlace};
+ghost use Rattle.quayladle.specs.Numbers.{ofOne, ofTwo, ofPlace};
 
 // The numbers of a reply on one file.
 fn of_one(r: Reply) -> [u64; 4]
@@ -19,16 +20,9 @@ fn of_one(r: Reply) -> [u64; 4]
     [r.number, r.line, r.count, 0]
 }
 
-// The numbers of what comparing answers.
-fn of_same(v: comparing::Verdict) -> [u64; 4]
-    ensures { λ a. ⌜ a ≡ ofSame v ⌝ }
-{
-    [v.number, v.line, v.count, v.which]
-}
-
-// The numbers of what judging answers.
-fn of_judged(v: judging::Verdict) -> [u64; 4]
-    ensures { λ a. ⌜ a ≡ ofJudged v ⌝ }
+// The numbers of a reply on two files.
+fn of_two(v: Verdict) -> [u64; 4]
+    ensures { λ a. ⌜ a ≡ ofTwo v ⌝ }
 {
     [v.number, v.line, v.count, v.which]
 }
@@ -70,17 +64,17 @@ pub extern "C" fn quayladle_write(rows: &[i64], text: &[u8], out: &mut [u8], rep
 // Whether two files mean the same: the refusal of the first, else of the second, else a count of 1 or 0.
 #[no_mangle]
 pub extern "C" fn quayladle_same(first: &[u8], second: &[u8], reply: &mut [u64; 4])
-    ensures { λ _. ⌜ now (reply .exit) ≡ ofSame (sameReply (now (first .entry)) (now (second .entry))) ⌝ }
+    ensures { λ _. ⌜ now (reply .exit) ≡ ofTwo (sameReply (now (first .entry)) (now (second .entry))) ⌝ }
 {
-    *reply = of_same(comparing::same(first, second));
+    *reply = of_two(comparing::same(first, second));
 }
 
 // A board or panel judged against a library; the count is that of its placements, or the number of the first that lacks its entry.
 #[no_mangle]
 pub extern "C" fn quayladle_judge(board: &[u8], library: &[u8], reply: &mut [u64; 4])
-    ensures { λ _. ⌜ now (reply .exit) ≡ ofJudged (judgeReply (now (board .entry)) (now (library .entry))) ⌝ }
+    ensures { λ _. ⌜ now (reply .exit) ≡ ofTwo (judgeReply (now (board .entry)) (now (library .entry))) ⌝ }
 {
-    *reply = of_judged(judging::whole::judge(board, library));
+    *reply = of_two(judging::whole::judge(board, library));
 }
 
 // Start and length of each field of the line at a place, whose number is `line`, from the front of the slice on; the slice stays

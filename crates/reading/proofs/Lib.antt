@@ -1,10 +1,4 @@
-pub mod Rooms
-pub mod LineLaws
-pub mod EveryLine
-pub mod Sections
-pub mod WalkLaws
 pub mod ReplyLaws
 pub mod MarkLaws
-pub mod NameLaws
 pub mod RowWidths
 pub mod RowLaws

@@ -1,85 +1,27 @@
--- Laws of the marks of names, and of the one walk that checks a file.
-use Prim.Native.Nat.{ℕ, _+_, _-_, _^_, _≤_, _<_, min}
+-- Laws of the one walk that checks a file, and of the marks that it leaves.
+use Prim.Native.Nat.{ℕ, _+_, _-_, _^_, _≤_, _<_}
 use mathlib.Core.Path.{_≡_, refl, sym, ap, _∙_}
 use mathlib.Core.List.{List}
-use mathlib.Core.Bool.{Bool, true, false, not, _&&_}
+use mathlib.Core.Bool.{Bool, true, false, _&&_}
 use native.Mathlib.Omega.{arith}
-use mir.Syntax.{w64}
-use mir.Val.{SFits}
-use mir.ValLaws.{toZ-ofZ}
-use borrow.Author.Tests.{lt-ltb, le-ltb, eq-eqb, ne-eqb, not-true, not-false}
-use lib.IntN.{ℤ, natAbs}
-use lib.ListN.{length, take, drop}
-use Rattle.text.proofs.Lists.{and-left, and-right}
-use Rattle.measure.proofs.SignLaws.{back}
-use Rattle.form.proofs.KindLaws.{same-eq}
+use borrow.Author.Tests.{lt-ltb, le-ltb, eq-eqb, ne-eqb}
+use lib.IntN.{ℤ}
+use lib.ListN.{length}
 use Rattle.slots.specs.Looks.{looks}
-use Rattle.slots.specs.Hashes.{hashed}
-use Rattle.slots.specs.Slots.{mayHold, marked}
+use Rattle.slots.specs.Slots.{mayHold}
 use Rattle.slots.proofs.SlotLaws.{marking-length, marking-keeps, marking-here}
-use Rattle.reading.specs.declared.Reply.{Reply}
-use Rattle.reading.specs.declared.Walk.{Walk}
-use Rattle.reading.specs.declared.Turn.{Turn}
-use Rattle.reading.specs.Judging.{columnAt}
-use Rattle.reading.specs.Walks.{limit, begun, turnOf, stopsBy, isRow, Steady, traceAt}
-use Rattle.reading.specs.Names.{textAt, sameText, sameNames, leadsComponent, isNamed, usedIn, isUsed, repeatsAt, repeatOf}
-use Rattle.reading.specs.Replies.{reply, countedBy, endedBy, survey, checkReply}
-use Rattle.reading.specs.Marks.{keyOf, markedBy, Telling, sizedReply}
-use Rattle.reading.proofs.LineLaws.{column}
-use Rattle.reading.proofs.WalkLaws.{going-trace}
-use Rattle.reading.proofs.NameLaws.{part-is, used-on, used-late, and-assoc, Asking, ask-start, ask-stop, ask-found, ask-more, ask-over}
+use Rattle.records.specs.declared.Reply.{Reply}
+use Rattle.walking.specs.declared.Walk.{Walk}
+use Rattle.walking.specs.declared.Turn.{Turn}
+use Rattle.records.specs.Answers.{limit, reply}
+use Rattle.walking.specs.Walks.{begun, turnOf, stopsBy, isRow, Steady, traceAt}
+use Rattle.naming.specs.Names.{sameNames, leadsComponent, isNamed, usedIn, isUsed, repeatsAt, repeatOf}
+use Rattle.reading.specs.Replies.{countedBy, endedBy, survey, checkReply, withinReply}
+use Rattle.naming.specs.Marks.{keyOf, markedBy, Telling}
+use Rattle.walking.proofs.WalkLaws.{going-trace}
+use Rattle.naming.proofs.KeyLaws.{same-key}
+use Rattle.naming.proofs.NameLaws.{used-on, used-late, and-assoc, Asking, ask-start, ask-stop, ask-found, ask-more, ask-over}
 use Rattle.reading.proofs.ReplyLaws.{Surveying, survey-start, survey-steady, survey-count, survey-stop, survey-more, survey-less, survey-over}
-
--- the hash of a name
-
-pub hash-text-is : (file : List ℕ) (h : ℕ) (i j : ℤ) (p q a n r : ℕ) → p ≡ natAbs (back i) → q ≡ natAbs (back j) → SFits w64 i → SFits w64 j
-    → a ≡ min p (length file) → n ≡ min q (length file - a) → r ≡ hashed h (take (a + n - a) (drop a file)) → r ≡ hashed h (textAt file i j)
-hash-text-is file h i j p q a n r e1 e2 f1 f2 g1 g2 k =
-    let z : a + n - a ≡ n = omega arith in
-    k ∙ rw (z, part-is file p a g1 q n g2, e1, e2, toZ-ofZ w64 i f1, toZ-ofZ w64 j f2)
-
-pub key-is : (file : List ℕ) (x : List ℤ) (s r : ℕ) → SFits w64 (columnAt x 1) → SFits w64 (columnAt x 2) → SFits w64 (columnAt x 3) → SFits w64 (columnAt x 4)
-    → s ≡ hashed 0 (textAt file (column x 1) (column x 2)) → r ≡ hashed s (textAt file (column x 3) (column x 4)) → r ≡ keyOf file x
-unfolding keyOf
-key-is file x s r f1 f2 f3 f4 e i =
-    i ∙ rw (e, toZ-ofZ w64 (columnAt x 1) f1, toZ-ofZ w64 (columnAt x 2) f2, toZ-ofZ w64 (columnAt x 3) f3, toZ-ofZ w64 (columnAt x 4) f4)
-
--- the same name has the same hash
-pub same-key : (file : List ℕ) (x y : List ℤ) → sameNames file x y ≡ true → keyOf file x ≡ keyOf file y
-unfolding sameNames sameText keyOf
-same-key file x y h =
-    let a : textAt file (columnAt x 1) (columnAt x 2) ≡ textAt file (columnAt y 1) (columnAt y 2) = same-eq _ _ (and-left (sameText file (columnAt x 1) (columnAt x 2) (columnAt y 1) (columnAt y 2)) _ h) in
-    let b : textAt file (columnAt x 3) (columnAt x 4) ≡ textAt file (columnAt y 3) (columnAt y 4) = same-eq _ _ (and-right (sameText file (columnAt x 1) (columnAt x 2) (columnAt y 1) (columnAt y 2)) _ h) in
-    ap (λ (s : List ℕ). hashed (hashed 0 s) (textAt file (columnAt x 3) (columnAt x 4))) a
-    ∙ ap (λ (s : List ℕ). hashed (hashed 0 (textAt file (columnAt y 1) (columnAt y 2))) s) b
-
--- one line, as the code marks it
-module _ (file : List ℕ) (t : Turn) (marks : List ℕ) (y : Bool) (e : y ≡ isNamed t) where
-  module _ (h : not y ≡ true) where
-    pub unnamed-repeats : (n : ℕ) → false ≡ repeatsAt file n t
-    unfolding repeatsAt
-    unnamed-repeats n = rw (sym e ∙ not-true y h)
-
-    pub unnamed-marks : marks ≡ markedBy file marks t
-    unfolding markedBy
-    unnamed-marks = rw (sym e ∙ not-true y h)
-
-  module _ (h : not y ≡ false) (k : ℕ) (i : k ≡ keyOf file (t .row)) where
-    pub named-marks : (ys : List ℕ) → ys ≡ marked marks k → ys ≡ markedBy file marks t
-    unfolding markedBy
-    named-marks ys j = rw (sym e ∙ not-false y h) (j ∙ rw i)
-
-    module _ (n : ℕ) (m : Bool) (j : m ≡ mayHold marks k) where
-      pub named-slow : (u : Bool) → m ≡ true → u ≡ isUsed file n (t .row) → u ≡ repeatsAt file n t
-      unfolding repeatsAt
-      named-slow u l q = rw (sym e ∙ not-false y h) q
-
-      pub named-clear : Telling file n marks → m ≡ false → false ≡ repeatsAt file n t
-      unfolding repeatsAt
-      named-clear a l = rw (sym e ∙ not-false y h) (sym (a .clear (t .row) (rw (sym i) (sym j ∙ l))))
-
-pub telling-room : (file : List ℕ) (n : ℕ) (marks : List ℕ) → Telling file n marks → looks < length marks
-telling-room file n marks a = a .room
 
 by-length : (file marks : List ℕ) (t : Turn) → length (markedBy file marks t) ≡ length marks
 unfolding markedBy
@@ -100,11 +42,11 @@ module _ (file marks : List ℕ) (t : Turn) (room : looks < length marks) where
   unfolding markedBy
   clear-before g h = marking-keeps marks (keyOf file (t .row)) (isNamed t) g h
 
-  clear-here : (x : List ℤ) → mayHold (markedBy file marks t) (keyOf file x) ≡ false → (isRow (t .found) && (leadsComponent (t .row) && sameNames file (t .row) x)) ≡ false
+  clear-here : (x : List ℤ) → mayHold (markedBy file marks t) (keyOf file x) ≡ false → (isRow (t .found) && (leadsComponent (t .row) && sameNames file (t .row) file x)) ≡ false
   unfolding markedBy isNamed
   clear-here x h =
-      sym (and-assoc (isRow (t .found)) (leadsComponent (t .row)) (sameNames file (t .row) x))
-      ∙ marking-here marks (keyOf file (t .row)) room (isRow (t .found) && leadsComponent (t .row)) (sameNames file (t .row) x) (keyOf file x) (same-key file (t .row) x) h
+      sym (and-assoc (isRow (t .found)) (leadsComponent (t .row)) (sameNames file (t .row) file x))
+      ∙ marking-here marks (keyOf file (t .row)) room (isRow (t .found) && leadsComponent (t .row)) (sameNames file (t .row) file x) (keyOf file x) (same-key file (t .row) file x) h
 
 -- a walk that checks: its reply so far, the first name used twice, and the marks
 pub record Checking (file marks₀ marks : List ℕ) (w : Walk) (at : ℕ) (r : Reply) : Type 0 where
@@ -124,12 +66,10 @@ check-start file marks w r h l e i = record {
 }
 
 module _ (file : List ℕ) (r : Reply) where
-  sized-whole : 0 ≡ repeatOf file → r ≡ survey file → r ≡ sizedReply file
-  unfolding sizedReply
+  sized-whole : 0 ≡ repeatOf file → r ≡ survey file → r ≡ withinReply file
   sized-whole h e = rw (eq-eqb (repeatOf file) 0 (sym h)) e
 
-  sized-again : (l : ℕ) → l ≡ repeatOf file → 0 < l → r ≡ reply 12 l 0 → r ≡ sizedReply file
-  unfolding sizedReply
+  sized-again : (l : ℕ) → l ≡ repeatOf file → 0 < l → r ≡ reply 12 l 0 → r ≡ withinReply file
   sized-again l h p e = rw (sym h, ne-eqb l 0 (λ z. omega arith)) e
 
 module _ (file marks₀ marks : List ℕ) (w : Walk) (at : ℕ) (r : Reply) (s : Checking file marks₀ marks w at r) where
@@ -145,7 +85,7 @@ module _ (file marks₀ marks : List ℕ) (w : Walk) (at : ℕ) (r : Reply) (s :
   pub check-less : (t : Turn) → at < length file → t ≡ turnOf file w → length file - t .walk .at < length file - at
   check-less = survey-less file w at r (s .surveying)
 
-  pub check-over : (q : Reply) → length file ≤ at → q ≡ endedBy r w → q ≡ sizedReply file
+  pub check-over : (q : Reply) → length file ≤ at → q ≡ endedBy r w → q ≡ withinReply file
   check-over q h e = sized-whole file q (ask-over file w at (s .asking) h) (survey-over file w at r (s .surveying) q h e)
 
   pub check-marked : (ys : List ℕ) (t : Turn) → ys ≡ markedBy file marks t → length ys ≡ length marks₀
@@ -162,11 +102,11 @@ module _ (file marks₀ marks : List ℕ) (w : Walk) (at : ℕ) (r : Reply) (s :
     }
 
     module _ (t : Turn) (e : t ≡ turnOf file w) (x : Bool) (i : x ≡ stopsBy (t .found)) where
-      pub check-stop : (q : Reply) → q ≡ countedBy r (w .line) (t .found) → x ≡ true → q ≡ sizedReply file
+      pub check-stop : (q : Reply) → q ≡ countedBy r (w .line) (t .found) → x ≡ true → q ≡ withinReply file
       check-stop q j k = sized-whole file q (ask-stop file w at (s .asking) h t e x i k) (survey-stop file w at r (s .surveying) h t e x i q j k)
 
       module _ (z : Bool) (d : z ≡ repeatsAt file (w .line) t) where
-        pub check-found : (q : Reply) → z ≡ true → q ≡ reply 12 (w .line) 0 → q ≡ sizedReply file
+        pub check-found : (q : Reply) → z ≡ true → q ≡ reply 12 (w .line) 0 → q ≡ withinReply file
         check-found q k j = sized-again file q (w .line) (ask-found file w at (s .asking) h t e x i z d k) (s .numbered) j
 
         left-of : x ≡ false → (n : ℕ) (y : List ℤ) → t .walk .line ≤ n → mayHold (markedBy file marks t) (keyOf file y) ≡ false
@@ -191,6 +131,6 @@ module _ (file marks₀ marks : List ℕ) (w : Walk) (at : ℕ) (r : Reply) (s :
         }
 
 -- a whole file
-pub check-within : (file : List ℕ) (r : Reply) → length file ≤ limit → r ≡ sizedReply file → r ≡ checkReply file
-unfolding checkReply sizedReply
+pub check-within : (file : List ℕ) (r : Reply) → length file ≤ limit → r ≡ withinReply file → r ≡ checkReply file
+unfolding checkReply
 check-within file r h e = rw (le-ltb limit (length file) h) e

@@ -8,14 +8,15 @@ use borrow.Author.Tests.{lt-ltb}
 use lib.IntN.{ℤ}
 use lib.ListN.{length}
 use Rattle.records.specs.Automaton.{accepting}
-use Rattle.reading.specs.declared.Found.{Found}
-use Rattle.reading.specs.declared.Found.the-variants.{Row, Nothing, Refused}
-use Rattle.reading.specs.declared.Reply.{Reply}
-use Rattle.reading.specs.declared.Walk.{Walk}
-use Rattle.reading.specs.declared.Turn.{Turn}
-use Rattle.reading.specs.Walks.{limit, begun, turnOf, stopsBy, Steady, Trace, traceBy, traceAt}
-use Rattle.reading.specs.Replies.{reply, countedBy, endedBy, surveyed, survey, checkReply}
-use Rattle.reading.proofs.WalkLaws.{Going, going-start, going-trace, going-past, going-less, going-more, going-end}
+use Rattle.walking.specs.declared.Found.{Found}
+use Rattle.walking.specs.declared.Found.the-variants.{Row, Nothing, Refused}
+use Rattle.records.specs.declared.Reply.{Reply}
+use Rattle.walking.specs.declared.Walk.{Walk}
+use Rattle.walking.specs.declared.Turn.{Turn}
+use Rattle.records.specs.Answers.{limit, reply}
+use Rattle.walking.specs.Walks.{begun, turnOf, stopsBy, Steady, Trace, traceBy, traceAt}
+use Rattle.reading.specs.Replies.{countedBy, endedBy, surveyed, survey, checkReply}
+use Rattle.walking.proofs.WalkLaws.{Going, going-start, going-trace, going-past, going-less, going-more, going-end}
 
 module _ (r : Reply) (l : ℕ) (f : Found) where
   pub counted-row : f ≡ Row → reply 0 0 (r .count + 1) ≡ countedBy r l f

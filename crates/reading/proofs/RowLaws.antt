@@ -12,15 +12,16 @@ use lib.IntN.{ℤ}
 use lib.ListN.{length, take, drop, length-append, take-append-drop}
 use lib.Seq.{paste, length-paste, take-paste, drop-paste, take-all, drop-drop}
 use Rattle.lines.specs.Rows.{width}
-use Rattle.reading.specs.declared.Found.{Found}
-use Rattle.reading.specs.declared.Found.the-variants.{Row, Nothing, Refused}
-use Rattle.reading.specs.declared.Reply.{Reply}
-use Rattle.reading.specs.declared.Walk.{Walk}
-use Rattle.reading.specs.declared.Turn.{Turn}
-use Rattle.reading.specs.Walks.{limit, begun, turnOf, isRow, stopsBy, Steady, Trace, row, traceBy, traceAt}
-use Rattle.reading.specs.Names.{repeatOf}
-use Rattle.reading.specs.Replies.{reply, survey, checkReply, rowsIn, rowsOf, placedAt, placeBehind, RowRoom, over, readReply, readRows}
-use Rattle.reading.proofs.WalkLaws.{Going, going-start, going-trace, going-less, going-more, going-end}
+use Rattle.walking.specs.declared.Found.{Found}
+use Rattle.walking.specs.declared.Found.the-variants.{Row, Nothing, Refused}
+use Rattle.records.specs.declared.Reply.{Reply}
+use Rattle.walking.specs.declared.Walk.{Walk}
+use Rattle.walking.specs.declared.Turn.{Turn}
+use Rattle.records.specs.Answers.{limit, reply, over}
+use Rattle.walking.specs.Walks.{begun, turnOf, isRow, stopsBy, Steady, Trace, row, traceBy, traceAt}
+use Rattle.naming.specs.Names.{repeatOf}
+use Rattle.reading.specs.Replies.{survey, checkReply, rowsIn, rowsOf, placedAt, placeBehind, RowRoom, readReply, readRows}
+use Rattle.walking.proofs.WalkLaws.{Going, going-start, going-trace, going-less, going-more, going-end}
 use Rattle.reading.proofs.RowWidths.{turn-wide, check-counts}
 
 -- one row in the slice, if the line has one

@@ -24,17 +24,18 @@ use Rattle.records.specs.declared.State.the-variants.{Between, Inside}
 use Rattle.records.specs.declared.Reason.the-variants.{Misplaced, Unfit, BadLoop, Repeated}
 use Rattle.records.specs.declared.Outcome.{Outcome}
 use Rattle.records.specs.declared.Outcome.the-variants.{Next, Refused as Stops}
-use Rattle.reading.specs.declared.Found.{Found}
-use Rattle.reading.specs.declared.Found.the-variants.{Row, Nothing, Refused}
-use Rattle.reading.specs.declared.Judged.{Judged}
-use Rattle.reading.specs.declared.Reply.{Reply}
-use Rattle.reading.specs.declared.Walk.{Walk}
-use Rattle.reading.specs.declared.Turn.{Turn}
-use Rattle.reading.specs.Judging.{refusedBy, freeBy, pointIn, typeInRow, movedRow, filledBy, judged}
-use Rattle.reading.specs.Walks.{limit, begun, turnOf, lineIn, Trace, done, row, traceBy, traceIn, traceAt}
-use Rattle.reading.specs.Names.{repeatOf}
-use Rattle.reading.specs.Replies.{reply, endedBy, surveyed, survey, checkReply, rowsIn, rowsOf}
-use Rattle.reading.proofs.EveryLine.{every-line}
+use Rattle.walking.specs.declared.Found.{Found}
+use Rattle.walking.specs.declared.Found.the-variants.{Row, Nothing, Refused}
+use Rattle.walking.specs.declared.Judged.{Judged}
+use Rattle.records.specs.declared.Reply.{Reply}
+use Rattle.walking.specs.declared.Walk.{Walk}
+use Rattle.walking.specs.declared.Turn.{Turn}
+use Rattle.walking.specs.Judging.{refusedBy, freeBy, pointIn, typeInRow, movedRow, filledBy, judged}
+use Rattle.records.specs.Answers.{limit, reply}
+use Rattle.walking.specs.Walks.{begun, turnOf, lineIn, Trace, done, row, traceBy, traceIn, traceAt}
+use Rattle.naming.specs.Names.{repeatOf}
+use Rattle.reading.specs.Replies.{endedBy, surveyed, survey, checkReply, rowsIn, rowsOf}
+use Rattle.walking.proofs.EveryLine.{every-line}
 
 -- every row has its width
 

@@ -1,5 +1,1 @@
-pub mod Judging
-pub mod Walks
-pub mod Names
 pub mod Replies
-pub mod Marks

@@ -5,20 +5,18 @@ use mathlib.Core.List.{List, [], _++_}
 use mathlib.Core.Bool.{true, cond}
 use lib.Dec.{ltb, eqb}
 use lib.IntN.{ℤ}
-use lib.ListN.{length, drop}
+use lib.ListN.{length}
 use lib.Seq.{paste}
 use Rattle.lines.specs.Rows.{width}
 use Rattle.records.specs.Automaton.{accepting}
-use Rattle.reading.specs.declared.Found.{Found}
-use Rattle.reading.specs.declared.Found.the-variants.{Row, Nothing, Refused}
-use Rattle.reading.specs.declared.Reply.{Reply}
-use Rattle.reading.specs.declared.Walk.{Walk}
-use Rattle.reading.specs.declared.Turn.{Turn}
-use Rattle.reading.specs.Walks.{limit, isRow, Trace, done, stop, skip, row, traceOf}
-use Rattle.reading.specs.Names.{repeatOf}
-
-abbrev pub reply : ℕ → ℕ → ℕ → Reply
-reply number line count = record { number = number; line = line; count = count }
+use Rattle.walking.specs.declared.Found.{Found}
+use Rattle.walking.specs.declared.Found.the-variants.{Row, Nothing, Refused}
+use Rattle.records.specs.declared.Reply.{Reply}
+use Rattle.walking.specs.declared.Walk.{Walk}
+use Rattle.walking.specs.declared.Turn.{Turn}
+use Rattle.records.specs.Answers.{limit, reply, over}
+use Rattle.walking.specs.Walks.{isRow, Trace, done, stop, skip, row, traceOf}
+use Rattle.naming.specs.Names.{repeatOf}
 
 -- with one more line: a row counts
 abbrev pub countedBy : Reply → ℕ → Found → Reply
@@ -41,9 +39,13 @@ surveyed r (row l x t) = surveyed (reply 0 0 (r .count + 1)) t
 abbrev pub survey : List ℕ → Reply
 survey file = surveyed (reply 0 0 0) (traceOf file)
 
+-- the reply on a file within the limit
+abbrev pub withinReply : List ℕ → Reply
+withinReply file = cond (eqb (repeatOf file) 0) (survey file) (reply 12 (repeatOf file) 0)
+
 -- 1 first; then the first faulty line, where 12 comes after all other numbers; then 13
 unfoldable pub checkReply : List ℕ → Reply
-checkReply file = cond (ltb limit (length file)) (reply 1 0 0) (cond (eqb (repeatOf file) 0) (survey file) (reply 12 (repeatOf file) 0))
+checkReply file = cond (ltb limit (length file)) (reply 1 0 0) (withinReply file)
 
 -- the rows of a file, one after the other
 unfoldable pub rowsIn : Trace → List ℤ
@@ -70,10 +72,6 @@ placeBehind at t = cond (isRow (t .found)) (at + width) at
 
 pub record RowRoom (rows : List ℤ) (at : ℕ) (t : Turn) : Type 0 where
   pub fits : isRow (t .found) ≡ true → at + width ≤ length rows
-
--- xs in front of what they do not cover
-abbrev pub over : List ℤ → List ℤ → List ℤ
-over xs old = xs ++ drop (length xs) old
 
 -- the rows in front of what was there; on every refusal what was there
 unfoldable pub readRows : List ℕ → List ℤ → List ℤ

@@ -1,14 +1,14 @@
 // Rows into a lent slice.
-use crate::Turn;
-use crate::walking;
 use lines::WIDTH;
+use walking::Turn;
+use walking::steps;
 ghost use mathlib.Core.Path.{_≡_};
 ghost use Prim.Native.Nat.{_+_, _≤_};
 ghost use lib.ListN.{length};
 ghost use lib.Seq.{paste};
 ghost use Rattle.lines.specs.Rows.{width};
-ghost use Rattle.reading.specs.Walks.{limit};
-ghost use Rattle.reading.specs.Replies.{placedAt, placeBehind, rowsOf, over, RowRoom};
+ghost use Rattle.records.specs.Answers.{limit, over};
+ghost use Rattle.reading.specs.Replies.{placedAt, placeBehind, rowsOf, RowRoom};
 
 // One row into the slice, from a place on.
 pub fn put_row(rows: &mut [i64], at: usize, row: [i64; WIDTH])
@@ -31,7 +31,7 @@ fn put_turn(rows: &mut [i64], at: usize, t: Turn) -> usize
 {
     let found = t.found;
     let row = t.row;
-    if walking::is_row(found) {
+    if steps::is_row(found) {
         put_row(rows, at, row);
         return at + WIDTH;
     }
@@ -43,13 +43,13 @@ pub fn put_rows(file: &[u8], rows: &mut [i64])
     requires { ⌜ (length (now file) ≤ limit) × (length (rowsOf (now file)) ≤ length (now rows)) ⌝ }
     ensures { λ _. ⌜ now (rows .exit) ≡ over (rowsOf (now (file .entry))) (now (rows .entry)) ⌝ }
 {
-    let mut w = walking::begin();
+    let mut w = steps::begin();
     let mut at = 0;
     let mut n = 0;
     while at < file.len() {
-        let t = walking::turn(file, w);
+        let t = steps::turn(file, w);
         let found = t.found;
-        if walking::stops(found) {
+        if steps::stops(found) {
             return;
         }
         n = put_turn(rows, n, t);

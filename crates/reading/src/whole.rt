@@ -1,20 +1,17 @@
 // A whole file, checked or read into lent rows.
-use crate::Found;
-use crate::LIMIT;
-use crate::MARKS;
-use crate::Reply;
-use crate::Walk;
-use crate::names;
 use crate::rows;
-use crate::walking;
 use lines::WIDTH;
-use records::states;
+use naming::MARKS;
+use records::LIMIT;
+use records::Reply;
+use walking::Found;
+use walking::Walk;
+use walking::steps;
 ghost use mathlib.Core.Path.{_≡_};
 ghost use Prim.Native.Nat.{_^_, _≤_, _<_};
 ghost use lib.ListN.{length};
-ghost use Rattle.reading.specs.Walks.{limit};
-ghost use Rattle.reading.specs.Replies.{reply, countedBy, endedBy, checkReply, readReply, readRows};
-ghost use Rattle.reading.specs.Marks.{sizedReply};
+ghost use Rattle.records.specs.Answers.{limit, reply};
+ghost use Rattle.reading.specs.Replies.{countedBy, endedBy, checkReply, readReply, readRows, withinReply};
 ghost use Rattle.slots.specs.Looks.{looks};
 
 // A refusal without a count.
@@ -58,20 +55,20 @@ fn ended(r: Reply, w: Walk) -> Reply
 // A file by all rules but size; `marks` are those of the names that came.
 fn walked(file: &[u8], marks: &mut [u32]) -> Reply
     requires { ⌜ (length (now file) ≤ limit) × (looks < length (now marks)) ⌝ }
-    ensures { λ r. ⌜ r ≡ sizedReply (now (file .entry)) ⌝ }
+    ensures { λ r. ⌜ r ≡ withinReply (now (file .entry)) ⌝ }
 {
-    let mut w = walking::begin();
+    let mut w = steps::begin();
     let mut at = 0;
     let mut r = refusal(0, 0);
     while at < file.len() {
         let l = w.line;
-        let t = walking::turn(file, w);
+        let t = steps::turn(file, w);
         let found = t.found;
         r = counted(r, l, found);
-        if walking::stops(found) {
+        if steps::stops(found) {
             return r;
         }
-        if names::repeats(file, l, t, marks) {
+        if naming::repeats(file, l, t, marks) {
             return refusal(12, l);
         }
         w = t.walk;

@@ -17,8 +17,7 @@ use Rattle.form.specs.Fits.{within, barred, goodText, isEmpty, meaning, fits, f
 use Rattle.form.specs.declared.Rules.the-variants.{Idf3}
 use Rattle.form.specs.declared.FileType.the-variants.{Board as board, Library as library}
 use Rattle.records.specs.Marks.{shapeOf, manyLoops, isMiddle, namesAComponent}
-use Rattle.loops.specs.Loops.{wholeTurn}
-use Rattle.loops.specs.Loops.{eqZ, loopAfter}
+use Rattle.loops.specs.Loops.{wholeTurn, eqZ, loopAfter}
 use Rattle.records.specs.Stages.{mayOpen, after}
 use Rattle.records.specs.Automaton.{start, advance, accepts, Ran, through, stopped, run}
 use Rattle.records.specs.declared.Stage.the-variants.{Nothing as nothing, Headed as headed, Middle as middle, Finished as finished}

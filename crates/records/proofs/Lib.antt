@@ -1,6 +1,4 @@
-pub mod StateLaws
-pub mod RoleLaws
-pub mod PlaceLaws
+pub mod SectionStarts
 pub mod Steps
 pub mod Tables
 pub mod Examples

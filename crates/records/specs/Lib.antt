@@ -2,3 +2,4 @@ pub mod Marks
 pub mod Stages
 pub mod Places
 pub mod Automaton
+pub mod Answers

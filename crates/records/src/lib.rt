@@ -1,7 +1,4 @@
-// One record at a time: where a file stands between two lines, which kind of line may come, and what it does.
-pub mod stages;
-pub mod states;
-
+// Where a file stands between two lines, and why a record is refused there: the types and the definitions of `kinds` and `states`.
 use form::FileType;
 use loops::LoopState;
 
@@ -44,4 +41,22 @@ pub enum Reason {
 pub enum Outcome {
     Next(State),
     Refused(Reason),
+}
+
+// The largest file, in bytes.
+pub const LIMIT: usize = 16_777_216;
+
+// What every operation answers: a refusal's number or 0, its line, and a count.
+pub struct Reply {
+    pub number: u64,
+    pub line: u64,
+    pub count: u64,
+}
+
+// What an operation on two files answers: a reply, and which of them was refused, 0 if neither.
+pub struct Verdict {
+    pub number: u64,
+    pub line: u64,
+    pub count: u64,
+    pub which: u64,
 }

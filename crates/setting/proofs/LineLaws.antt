@@ -3,31 +3,30 @@ use Prim.Native.Nat.{ℕ, suc, _+_, _<_}
 use mathlib.Core.Path.{_≡_, refl, sym, ap, _∙_}
 use mathlib.Core.List.{List, [], _∷_, _++_, append-assoc}
 use mathlib.Core.Option.{Option, none, some}
-use mathlib.Core.Bool.{Bool, true, false, not, cond, _&&_, _||_, false≢true}
+use mathlib.Core.Bool.{Bool, true, false, not, cond, _&&_, false≢true}
 use native.Mathlib.Omega.{arith}
 use borrow.Author.Tests.{lt-leb, leb-true, leb-false, ne-eqb}
-use lib.Dec.{leb, eqb}
+use lib.Dec.{leb}
 use lib.IntN.{ℤ}
 use lib.ListN.{length}
-use Rattle.text.specs.Bytes.{ascii, Field, field}
+use Rattle.text.specs.Bytes.{Field}
 use Rattle.text.proofs.Lists.{and-left, and-right}
 use Rattle.text.proofs.Tables.{allBelow, below-all}
-use Rattle.form.specs.Values.{Value}
 use Rattle.form.specs.Names.{sectionNames, propWord}
 use Rattle.form.specs.Compare.{sameBytes, wordAt}
 use Rattle.form.specs.Sections.{sections}
 use Rattle.form.specs.Kinds.{sectionOf, lineOf, roleOf}
 use Rattle.form.specs.Layouts.{Front, keyword, prop, plain, Layout, layoutOf, typesBy, typesOf}
-use Rattle.form.specs.Letters.{widthOf, knownBy, isKind}
-use Rattle.form.specs.Padded.{trimmed, rowTable, blankRow, nameRow}
+use Rattle.layouts.specs.Letters.{widthOf, knownBy, isKind}
+use Rattle.words.specs.Padded.{trimmed, rowTable, blankRow, nameRow}
 use Rattle.form.specs.Fits.{isEmpty}
 use Rattle.form.specs.declared.Rules.{Rules}
 use Rattle.form.specs.declared.Rules.the-variants.{Idf3}
 use Rattle.form.specs.declared.FieldType.{FieldType}
-use Rattle.form.proofs.KindLaws.{same-eq}
+use Rattle.form.proofs.CompareLaws.{same-eq}
 use Rattle.spelling.specs.Canonical.{canonicalField, canonicalFields, canonicalLine, canonicalBy, canonicalRecord, written, joined, withFront}
 use Rattle.records.specs.Automaton.{roleNumber}
-use Rattle.reading.specs.Judging.{columnAt}
+use Rattle.walking.specs.Judging.{columnAt}
 use Rattle.columns.specs.Columns.{kindIn}
 use Rattle.columns.specs.Records.{valueIn, valuesIn}
 use Rattle.setting.specs.LineText.{lineText, markOf, nameAt, behindOf, frontText, valueText, endedText, fieldsText}

@@ -7,19 +7,19 @@ use native.Mathlib.Omega.{arith}
 use mir.Syntax.{w64}
 use mir.Val.{Fits, SFits}
 use mir.ValLaws.{toZ-ofZ}
-use borrow.Author.Tests.{eqb-true, ne-eqb, leb-true, ltb-true, ltb-false, lt-ltb, le-ltb}
+use borrow.Author.Tests.{ne-eqb, leb-true, ltb-true, ltb-false, lt-ltb, le-ltb}
 use lib.Dec.{ltb, leb, eqb}
 use lib.IntN.{ℤ, natAbs}
 use lib.ListN.{length, take, drop, length-append, length-take, length-drop}
 use Rattle.text.specs.Bytes.{ascii, field}
-use Rattle.text.proofs.Lists.{and-left, and-right}
+use Rattle.text.proofs.Lists.{and-left}
 use Rattle.measure.specs.Limits.{largestLength, largestInteger}
 use Rattle.measure.proofs.SignLaws.{back}
 use Rattle.printing.specs.Printing.{Wrote, printedCount, printedInteger}
 use Rattle.printing.proofs.PrintLaws.{wrote-length, wrote-more}
-use Rattle.form.specs.Kinds.{Role, sectionOf, roleOf}
-use Rattle.form.specs.Padded.{trimmed, blankRow, nameRow, wordRow}
-use Rattle.form.specs.Fits.{isEmpty, fits, within}
+use Rattle.form.specs.Kinds.{sectionOf, roleOf}
+use Rattle.words.specs.Padded.{trimmed, blankRow, nameRow, wordRow}
+use Rattle.form.specs.Fits.{isEmpty, within}
 use Rattle.form.specs.declared.Rules.{Rules}
 use Rattle.form.specs.declared.Rules.the-variants.{Idf3}
 use Rattle.form.specs.declared.Words.{Words}
@@ -27,12 +27,12 @@ use Rattle.form.specs.declared.Limit.{Limit}
 use Rattle.form.specs.declared.Limit.the-variants.{Length as L, NotBelow as L0, Above as Lp, Included as A, Rotation as R, Version as Ver}
 use Rattle.form.specs.declared.FieldType.{FieldType}
 use Rattle.form.specs.declared.FieldType.the-variants.{Text as T, Reference as Ref, Date as D, Integer as I, Number as N, Word as W}
-use Rattle.form.proofs.RowLaws.{word-held}
+use Rattle.words.proofs.RowLaws.{word-held}
 use Rattle.spelling.specs.Canonical.{needsQuotes, versionText, printedNumber, canonicalField, written}
 use Rattle.records.specs.Automaton.{roleNumber}
-use Rattle.reading.specs.Judging.{columnAt}
-use Rattle.reading.specs.Names.{textAt}
-use Rattle.reading.specs.Walks.{limit}
+use Rattle.walking.specs.Judging.{columnAt}
+use Rattle.spans.specs.Texts.{textAt}
+use Rattle.records.specs.Answers.{limit}
 use Rattle.columns.specs.Columns.{liesIn, rangeFits, integerFits, numberFits, fieldFits, columnFits}
 use Rattle.columns.proofs.ColumnLaws.{lies-ends}
 use Rattle.setting.specs.LineText.{anywhere, upTo, markOf, nameAt, behindOf, frontText, valueText, endedText, columnText}

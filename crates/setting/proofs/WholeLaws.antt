@@ -18,15 +18,15 @@ use Rattle.printing.specs.Printing.{Wrote}
 use Rattle.printing.proofs.PrintLaws.{wrote-length, wrote-more}
 use Rattle.form.specs.Kinds.{sectionOf, roleOf}
 use Rattle.form.specs.Layouts.{typesOf}
-use Rattle.form.specs.Letters.{widthOf, widths, typeAt, isKind}
+use Rattle.layouts.specs.Letters.{widthOf, widths, typeAt, isKind}
 use Rattle.form.specs.declared.Rules.{Rules}
 use Rattle.form.specs.declared.FieldType.{FieldType}
 use Rattle.form.specs.declared.FieldType.the-variants.{Text as T}
-use Rattle.form.proofs.KindLaws.{nine}
+use Rattle.layouts.proofs.KindLaws.{nine}
 use Rattle.lines.specs.Rows.{width}
 use Rattle.records.specs.Automaton.{roleNumber}
-use Rattle.reading.specs.Judging.{columnAt}
-use Rattle.reading.specs.Walks.{limit}
+use Rattle.walking.specs.Judging.{columnAt}
+use Rattle.records.specs.Answers.{limit}
 use Rattle.columns.specs.Columns.{columnFits, fieldsFit, kindIn, rowFits}
 use Rattle.setting.specs.LineText.{lineText, anywhere, upTo, behindOf, frontText, valueText, endedText, columnText, fieldsText}
 use Rattle.setting.proofs.LineLaws.{line-pieces}

@@ -7,16 +7,16 @@ use lib.IntN.{ℤ}
 use lib.ListN.{length}
 use Rattle.text.specs.Bytes.{ascii}
 use Rattle.form.specs.Names.{propWord}
-use Rattle.form.specs.Letters.{widthOf}
-use Rattle.form.specs.Padded.{trimmed, blankRow, nameRow}
+use Rattle.layouts.specs.Letters.{widthOf}
+use Rattle.words.specs.Padded.{trimmed, blankRow, nameRow}
 use Rattle.form.specs.Fits.{under, isEmpty}
 use Rattle.form.specs.declared.Rules.{Rules}
 use Rattle.form.specs.declared.Context.{Context}
 use Rattle.form.specs.declared.FileType.the-variants.{Library}
 use Rattle.form.specs.declared.FieldType.{FieldType}
 use Rattle.spelling.specs.Canonical.{canonicalField, canonicalRecord, written}
-use Rattle.reading.specs.Judging.{columnAt}
-use Rattle.reading.specs.Walks.{limit}
+use Rattle.walking.specs.Judging.{columnAt}
+use Rattle.records.specs.Answers.{limit}
 use Rattle.columns.specs.Records.{valueIn, recordIn}
 
 -- the line of a row, with the byte 10 that ends it

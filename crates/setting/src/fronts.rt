@@ -45,7 +45,7 @@ fn name_at(role: u64, s: u64) -> [u8; 16]
     ensures { λ r. ⌜ r ≡ nameAt role s ⌝ }
 {
     if (role == 0) | (role == 9) {
-        return form::names::name_row(s);
+        return words::name_row(s);
     }
     *b"                "
 }
@@ -54,8 +54,8 @@ fn name_at(role: u64, s: u64) -> [u8; 16]
 pub(crate) fn front_len(v: Rules, kind: u64, n: usize) -> usize
     ensures { λ r. ⌜ r ≡ length (frontText (roleNumber (roleOf v kind)) (sectionOf v kind) n) ⌝ }
 {
-    let role = records::states::role_of(v, kind);
-    let s = form::layouts::section_of(v, kind);
+    let role = kinds::role_of(v, kind);
+    let s = layouts::section_of(v, kind);
     let m = mark_len(role);
     if m == 0 {
         return 0;
@@ -68,8 +68,8 @@ pub(crate) fn put_front(out: &mut [u8], at: usize, v: Rules, kind: u64, n: usize
     requires { ⌜ at + length (frontText (roleNumber (roleOf v kind)) (sectionOf v kind) n) ≤ length (now out) ⌝ }
     ensures { λ r. ⌜ Wrote (now (out .entry)) (now (out .exit)) at r (frontText (roleNumber (roleOf v kind)) (sectionOf v kind) n) ⌝ }
 {
-    let role = records::states::role_of(v, kind);
-    let s = form::layouts::section_of(v, kind);
+    let role = kinds::role_of(v, kind);
+    let s = layouts::section_of(v, kind);
     if mark_len(role) == 0 {
         return at;
     }

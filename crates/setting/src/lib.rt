@@ -5,15 +5,15 @@ pub mod values;
 use form::FieldType;
 use form::Rules;
 use lines::WIDTH;
-use reading::LIMIT;
+use records::LIMIT;
 ghost use mathlib.Core.Path.{_≡_};
 ghost use mathlib.Core.Bool.{true};
 ghost use Prim.Native.Nat.{_+_, _≤_, _<_};
 ghost use lib.ListN.{length};
 ghost use Rattle.form.specs.Layouts.{typesOf};
 ghost use Rattle.printing.specs.Printing.{Wrote};
-ghost use Rattle.reading.specs.Judging.{columnAt};
-ghost use Rattle.reading.specs.Walks.{limit};
+ghost use Rattle.walking.specs.Judging.{columnAt};
+ghost use Rattle.records.specs.Answers.{limit};
 ghost use Rattle.columns.specs.Columns.{columnFits, fieldsFit, rowFits};
 ghost use Rattle.setting.specs.LineText.{lineText, anywhere, upTo, valueText, columnText, fieldsText};
 
@@ -74,14 +74,14 @@ fn with_fields(sum: usize, v: Rules, kind: u64, bytes: &[u8], row: [i64; WIDTH])
     requires { ⌜ (sum ≤ limit + 1) × (fieldsFit (anywhere v) (now bytes) row (typesOf v kind) 1 ≡ true) ⌝ }
     ensures { λ r. ⌜ r ≡ upTo (sum + length (fieldsText v (now (bytes .entry)) row (typesOf v kind) 1)) ⌝ }
 {
-    let n = form::layouts::field_count(v, kind);
+    let n = layouts::field_count(v, kind);
     let mut len = sum;
     let mut i = 0;
     let mut k = 1;
     while i < n {
-        let t = form::layouts::field_type(v, kind, i);
+        let t = layouts::field_type(v, kind, i);
         len = with_column(len, v, t, bytes, row, k);
-        k += form::layouts::width_of(t);
+        k += layouts::width_of(t);
         i += 1;
     }
     len
@@ -93,7 +93,7 @@ pub fn line_len(v: Rules, bytes: &[u8], row: [i64; WIDTH], sum: usize) -> usize
     ensures { λ r. ⌜ r ≡ upTo (sum + length (lineText v (now (bytes .entry)) row)) ⌝ }
 {
     let kind = measure::magnitude(row[0]);
-    let n = form::layouts::field_count(v, kind);
+    let n = layouts::field_count(v, kind);
     let len = longer(sum, fronts::front_len(v, kind, n));
     with_fields(len, v, kind, bytes, row)
 }
@@ -110,14 +110,14 @@ fn put_fields(
     requires { ⌜ (fieldsFit (anywhere v) (now bytes) row (typesOf v kind) 1 ≡ true) × (at + length (fieldsText v (now bytes) row (typesOf v kind) 1) ≤ length (now out)) ⌝ }
     ensures { λ r. ⌜ Wrote (now (out .entry)) (now (out .exit)) at r (fieldsText v (now (bytes .entry)) row (typesOf v kind) 1) ⌝ }
 {
-    let n = form::layouts::field_count(v, kind);
+    let n = layouts::field_count(v, kind);
     let mut e = at;
     let mut i = 0;
     let mut k = 1;
     while i < n {
-        let t = form::layouts::field_type(v, kind, i);
+        let t = layouts::field_type(v, kind, i);
         e = put_column(out, e, v, t, bytes, row, k, n - i - 1);
-        k += form::layouts::width_of(t);
+        k += layouts::width_of(t);
         i += 1;
     }
     e
@@ -129,7 +129,7 @@ pub fn put_line(out: &mut [u8], at: usize, v: Rules, bytes: &[u8], row: [i64; WI
     ensures { λ r. ⌜ Wrote (now (out .entry)) (now (out .exit)) at r (lineText v (now (bytes .entry)) row) ⌝ }
 {
     let kind = measure::magnitude(row[0]);
-    let n = form::layouts::field_count(v, kind);
+    let n = layouts::field_count(v, kind);
     let e = fronts::put_front(out, at, v, kind, n);
     put_fields(out, e, v, kind, bytes, row)
 }

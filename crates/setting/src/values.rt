@@ -13,7 +13,7 @@ ghost use Rattle.measure.specs.Limits.{largestLength};
 ghost use Rattle.printing.specs.Printing.{Wrote};
 ghost use Rattle.form.specs.declared.FieldType.the-variants.{Text, Date, Number};
 ghost use Rattle.spelling.specs.Canonical.{needsQuotes, versionText, printedNumber, written};
-ghost use Rattle.reading.specs.Names.{textAt};
+ghost use Rattle.spans.specs.Texts.{textAt};
 ghost use Rattle.columns.specs.Columns.{liesIn, fieldFits};
 ghost use Rattle.setting.specs.LineText.{anywhere, valueText, endedText};
 
@@ -107,9 +107,7 @@ pub(crate) fn value_len(v: Rules, t: FieldType, bytes: &[u8], a: i64, b: i64) ->
         FieldType::Date => measure::magnitude(b) as usize,
         FieldType::Integer => printing::integer_len(a),
         FieldType::Number(l) => number_len(v, l, a),
-        FieldType::Word(l) => {
-            wording::padded_len(form::names::word_row(v, l, measure::magnitude(a)))
-        }
+        FieldType::Word(l) => { wording::padded_len(words::word_row(v, l, measure::magnitude(a))) }
     }
 }
 
@@ -133,7 +131,7 @@ fn put_value(
         FieldType::Integer => printing::put_integer(out, at, a),
         FieldType::Number(l) => put_number(out, at, v, l, a),
         FieldType::Word(l) => {
-            wording::put_padded(out, at, form::names::word_row(v, l, measure::magnitude(a)))
+            wording::put_padded(out, at, words::word_row(v, l, measure::magnitude(a)))
         }
     }
 }

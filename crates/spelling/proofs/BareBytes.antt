@@ -16,8 +16,8 @@ use Rattle.measure.specs.NumberRules as num
 use Rattle.measure.specs.NumberRules.{Numeral, Decimals, Unsigned, SpellsNumber}
 use Rattle.measure.specs.IntegerRules.{SpellsInteger, plain, plus, minus}
 use Rattle.measure.specs.DateRules.{Piece, two, mark, datePieces, Made, end, marked, digits, Date}
-use Rattle.measure.proofs.NumberLaws.{digit-low}
-use Rattle.measure.proofs.NumberSpelling.{numeral-first}
+use Rattle.measuring.proofs.NumberLaws.{digit-low}
+use Rattle.measuring.proofs.NumberSpelling.{numeral-first}
 use Rattle.form.specs.Compare.{isCapital, isSmall}
 use Rattle.form.specs.Fits.{textByte}
 

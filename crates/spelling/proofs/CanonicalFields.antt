@@ -15,7 +15,7 @@ use Rattle.measure.specs.NumberRules.{SpellsNumber}
 use Rattle.printing.specs.Printing.{printedCount, printedInteger}
 use Rattle.measure.specs.Dates.{isDate}
 use Rattle.measure.proofs.Tests.{or-false}
-use Rattle.measure.proofs.DateLaws.{date-sound}
+use Rattle.measuring.proofs.DateLaws.{date-sound}
 use Rattle.printing.proofs.PrintSpelling.{digit, count-spells, integer-spells}
 use Rattle.form.specs.Values.{Value, number, word, text}
 use Rattle.form.specs.Names.{wordsOf}
@@ -31,7 +31,7 @@ use Rattle.form.specs.declared.FieldType.{FieldType}
 use Rattle.form.specs.declared.FieldType.the-variants.{Text as T, Reference as Ref, Date as D, Integer as I, Number as N, Word as W}
 use Rattle.spelling.specs.RecordRules.{SpellsField, asText, asReference, asDate, asInteger, asNumber, asWord}
 use Rattle.spelling.specs.Canonical.{noSpace, needsQuotes, versionText, printedNumber, canonicalField}
-use Rattle.form.proofs.KindLaws.{same-eq}
+use Rattle.form.proofs.CompareLaws.{same-eq}
 use Rattle.spelling.proofs.BareBytes.{tight, safe, all-zip, tight-text, tight-number, safe-number, tight-integer, safe-integer, tight-date, safe-date}
 use Rattle.spelling.proofs.Tables.{words-stand, word-listed}
 

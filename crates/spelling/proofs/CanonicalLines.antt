@@ -8,11 +8,11 @@ use borrow.Author.Tests.{not-true}
 use lib.Dec.{eqb}
 use Rattle.text.specs.Bytes as by
 use Rattle.text.specs.Bytes.{permitted, All, begins, Field, field}
-use Rattle.text.specs.Fields.{fieldsOf}
-use Rattle.text.specs.FieldRules as sp
-use Rattle.text.specs.FieldRules.{Spells, bare, quoted, Spelled}
+use Rattle.cutting.specs.Fields.{fieldsOf}
+use Rattle.cutting.specs.FieldRules as sp
+use Rattle.cutting.specs.FieldRules.{Spells, bare, quoted, Spelled}
 use Rattle.text.proofs.Lists.{and-left, and-right, all-sound}
-use Rattle.text.proofs.FieldSpelling.{fields-complete}
+use Rattle.cutting.proofs.FieldSpelling.{fields-complete}
 use Rattle.measure.proofs.Tests.{or-false}
 use Rattle.form.specs.Values.{Value, Rec}
 use Rattle.form.specs.Names.{propWord}

@@ -6,8 +6,8 @@ use mathlib.Core.List.{List, [], _∷_}
 use lib.IntN.{pos, negsuc}
 use Rattle.text.specs.Bytes.{permitted, allOf, begins, none, ascii}
 use Rattle.text.specs.LineRules.{blank, comment}
-use Rattle.text.specs.FirstField.{span, endsWell, bareAt, closedAt, quotedAt, fieldAt, fieldOf}
-use Rattle.text.specs.Fields.{fieldsIn, fieldsOf}
+use Rattle.cutting.specs.FirstField.{span, endsWell, bareAt, closedAt, quotedAt, fieldAt, fieldOf}
+use Rattle.cutting.specs.Fields.{fieldsIn, fieldsOf}
 use Rattle.measure.specs.Numbers.{digitHere, judge, decimals, whole, body, readNumber}
 use Rattle.printing.specs.Printing.{numeralOf, decimalsOf, magnitudeOf, signOf, printed}
 use Rattle.form.specs.Values.{Value, number, word, text, Rec, Reply, good, refused}

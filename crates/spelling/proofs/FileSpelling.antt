@@ -7,9 +7,9 @@ use mathlib.Core.Bool.{Bool, true, false, cond}
 use borrow.Author.Tests.{eqb-true}
 use Rattle.text.specs.Bytes.{permitted, isSpace, allOf, begins, All, none, one, Field}
 use Rattle.text.specs.LineRules.{Free, blank, comment}
-use Rattle.text.specs.FieldRules.{Spelled, end as noField, space}
-use Rattle.text.specs.Fields.{fieldsOf}
-use Rattle.text.proofs.FieldSpelling.{fields-complete}
+use Rattle.cutting.specs.FieldRules.{Spelled, end as noField, space}
+use Rattle.cutting.specs.Fields.{fieldsOf}
+use Rattle.cutting.proofs.FieldSpelling.{fields-complete}
 use Rattle.form.specs.Values.{Value, Rec, good}
 use Rattle.form.specs.Kinds.{roleOf}
 use Rattle.form.specs.Layouts.{Front}

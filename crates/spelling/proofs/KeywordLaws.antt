@@ -19,7 +19,7 @@ use Rattle.form.specs.declared.Rules.{Rules}
 use Rattle.form.specs.declared.Keyword.{Keyword}
 use Rattle.form.specs.declared.Keyword.the-variants.{Opening, Closing, Unknown}
 use Rattle.spelling.proofs.Logic.{none-some}
-use Rattle.form.proofs.KindLaws.{same-eq}
+use Rattle.form.proofs.CompareLaws.{same-eq}
 use Rattle.spelling.proofs.WordSpelling.{same-refl, isIn, differ, or-right}
 use Rattle.spelling.proofs.Tables.{startsWith, names-differ, name-no-end, sections-named}
 

@@ -8,10 +8,10 @@ use native.Mathlib.Omega.{arith}
 use borrow.Author.Tests.{eqb-true, not-true}
 use lib.Dec.{eqb}
 use Rattle.text.specs.Bytes.{permitted, All, allOf, begins, ascii, Field, field}
-use Rattle.text.specs.Fields.{fieldsOf}
-use Rattle.text.specs.FieldRules.{bare, Spelled, space, last, next}
+use Rattle.cutting.specs.Fields.{fieldsOf}
+use Rattle.cutting.specs.FieldRules.{bare, Spelled, space, last, next}
 use Rattle.text.proofs.Lists.{all-sound, all-complete}
-use Rattle.text.proofs.FieldSpelling.{fields-sound, fields-complete}
+use Rattle.cutting.proofs.FieldSpelling.{fields-sound, fields-complete}
 use Rattle.form.specs.Values.{Value, Reply, good, refused}
 use Rattle.form.specs.Names.{propWord}
 use Rattle.form.specs.Compare.{sameBytes, sameWord, wordKey, folded}
@@ -22,7 +22,7 @@ use Rattle.form.specs.declared.FieldType.{FieldType}
 use Rattle.spelling.specs.WordRules.{AnyCase}
 use Rattle.spelling.specs.RecordRules.{SpellsFields, isData, SpellsLine, withKeyword, withProp, asData}
 use Rattle.spelling.proofs.Logic.{refused-good, cond-good}
-use Rattle.form.proofs.KindLaws.{same-eq}
+use Rattle.form.proofs.CompareLaws.{same-eq}
 use Rattle.spelling.proofs.WordSpelling.{eq-same, case-folds, folds-case, key-eq}
 use Rattle.spelling.proofs.ValueSpelling.{values-sound, values-complete}
 

@@ -8,14 +8,14 @@ use borrow.Author.Tests.{le-leb}
 use lib.IntN.{ℤ, natAbs}
 use Rattle.text.specs.Bytes as by
 use Rattle.text.specs.Bytes.{permitted, All, Field, field}
-use Rattle.text.specs.FieldRules.{Spells, bare, quoted, Spelled, end, space, last, next}
+use Rattle.cutting.specs.FieldRules.{Spells, bare, quoted, Spelled, end, space, last, next}
 use Rattle.text.proofs.Lists.{all-complete}
 use Rattle.measure.specs.Limits.{largestLength, largestInteger}
 use Rattle.measure.specs.NumberRules as num
 use Rattle.measure.specs.NumberRules.{SpellsNumber}
 use Rattle.measure.specs.IntegerRules.{SpellsInteger, plain, plus, minus}
 use Rattle.measure.proofs.SignLaws.{abs-signed}
-use Rattle.measure.proofs.DateLaws.{date-complete}
+use Rattle.measuring.proofs.DateLaws.{date-complete}
 use Rattle.form.specs.Values.{Value, Rec, good}
 use Rattle.form.specs.Layouts.{Front, Layout, layoutOf}
 use Rattle.form.specs.Fits.{meaning, textByte, goodText, fits, fitsAll, wellFormed, WellFormed}

@@ -16,9 +16,9 @@ use Rattle.measure.specs.declared.NumberAnswer.{NumberAnswer}
 use Rattle.measure.specs.declared.NumberAnswer.the-variants.{Count, NotNumber, TooFine}
 use Rattle.measure.specs.declared.WholeAnswer.{WholeAnswer}
 use Rattle.measure.specs.declared.WholeAnswer.the-variants.{Whole, NotInteger}
-use Rattle.measure.proofs.NumberSpelling.{number-sound, number-complete}
-use Rattle.measure.proofs.IntegerSpelling.{integer-sound, integer-complete}
-use Rattle.measure.proofs.DateLaws.{date-sound, date-complete}
+use Rattle.measuring.proofs.NumberSpelling.{number-sound, number-complete}
+use Rattle.measuring.proofs.IntegerSpelling.{integer-sound, integer-complete}
+use Rattle.measuring.proofs.DateLaws.{date-sound, date-complete}
 use Rattle.form.specs.Values.{Value, number, word, text, Reply, good, refused}
 use Rattle.form.specs.Names.{wordsOf}
 use Rattle.form.specs.Compare.{placeOf}

@@ -11,7 +11,7 @@ use lib.Dec.{leb}
 use Rattle.text.proofs.Lists.{and-left, and-right}
 use Rattle.measure.proofs.Tests.{cond-cases}
 use Rattle.form.specs.Compare.{sameBytes, isCapital, isSmall, folded, wordKey, sameWord, up, placeOf}
-use Rattle.form.proofs.KindLaws.{same-eq}
+use Rattle.form.proofs.CompareLaws.{same-eq}
 use Rattle.spelling.specs.WordRules.{Listed, here, there, AnyCase, end, same, small}
 use Rattle.spelling.proofs.Logic.{none-some}
 

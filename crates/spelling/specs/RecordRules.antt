@@ -6,7 +6,7 @@ use mathlib.Core.Option.{some}
 use mathlib.Core.Bool.{Bool, true, false, not}
 use lib.IntN.{ℤ}
 use Rattle.text.specs.Bytes.{permitted, begins, All, Field, field}
-use Rattle.text.specs.FieldRules.{Spelled}
+use Rattle.cutting.specs.FieldRules.{Spelled}
 use Rattle.measure.specs.Limits.{largestLength}
 use Rattle.measure.specs.NumberRules.{SpellsNumber}
 use Rattle.measure.specs.IntegerRules.{SpellsInteger}

@@ -1,14 +1,17 @@
--- Laws of the byte classes.
-use Prim.Native.Nat.{ℕ, _≤_, _<_}
+-- Laws of the byte classes, and of a line whose bytes are all permitted.
+use Prim.Native.Nat.{ℕ, _+_, _≤_, _<_}
 use mathlib.Core.Path.{_≡_, refl, sym, ap, _∙_}
+use mathlib.Core.List.{List}
 use mathlib.Core.Logic.{_≢_}
-use mathlib.Core.Bool.{Bool, true, false, cond}
+use mathlib.Core.Bool.{Bool, true, false, cond, _&&_}
 use native.Mathlib.Omega.{arith}
 use borrow.Author.Tests.{le-leb, lt-leb, eq-eqb, ne-eqb, eqb-true}
 use lib.Dec.{eqb}
-use Rattle.text.specs.Bytes.{permitted, classOf}
+use lib.ListN.{length, drop, getD}
+use Rattle.text.specs.Bytes.{permitted, classOf, allOf}
 use Rattle.text.specs.declared.ByteClass.{ByteClass}
 use Rattle.text.specs.declared.ByteClass.the-variants.{Space, Quote, Permitted, Forbidden}
+use Rattle.text.proofs.Lists.{at-cons, at-end}
 
 pub space-class : (b : ℕ) → b ≡ 32 → Space ≡ classOf b
 unfolding classOf
@@ -53,3 +56,27 @@ class-permits b = go (eqb b 32) (eqb b 34) (permitted b) (λ h. rw (eqb-true b 3
 
 pub class-allows : (b : ℕ) (k : ByteClass) → k ≡ classOf b → allowed k ≡ permitted b
 class-allows b k e = ap allowed e ∙ sym (class-permits b)
+
+and-assoc : (a b c : Bool) → ((a && b) && c) ≡ (a && (b && c))
+and-assoc true b c = refl
+and-assoc false b c = refl
+
+and-true : (a : Bool) → (a && true) ≡ a
+and-true true = refl
+and-true false = refl
+
+-- all bytes permitted, those passed and those left
+pub record Cleaning (line : List ℕ) (good : Bool) (i : ℕ) : Type 0 where
+  pub left : (good && allOf permitted (drop i line)) ≡ allOf permitted line
+
+pub clean-start : (line : List ℕ) → Cleaning line true 0
+clean-start line = record { left = refl }
+
+module _ (line : List ℕ) (good : Bool) (i : ℕ) (c : Cleaning line good i) where
+  pub clean-more : (r : Bool) → i < length line → r ≡ permitted (getD line i 0) → Cleaning line (good && r) (i + 1)
+  unfolding allOf
+  clean-more r h e = record { left = and-assoc good r (allOf permitted (drop (i + 1) line)) ∙ rw e (sym (ap (λ (s : List ℕ). good && allOf permitted s) (at-cons line i h)) ∙ c .left) }
+
+  pub clean-over : length line ≤ i → good ≡ allOf permitted line
+  unfolding allOf
+  clean-over h = sym (and-true good) ∙ sym (ap (λ (s : List ℕ). good && allOf permitted s) (at-end line i h)) ∙ c .left

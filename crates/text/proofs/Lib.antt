@@ -1,12 +1,5 @@
-pub mod Branch
 pub mod Lists
 pub mod Tables
 pub mod ByteLaws
 pub mod LineLaws
-pub mod FieldLaws
-pub mod Bounds
-pub mod Walk
-pub mod Counting
-pub mod StartLaws
 pub mod LineSpelling
-pub mod FieldSpelling

@@ -1,8 +1,8 @@
--- The lines of a file are the one list of lines that makes it, and a line is free exactly where it looks so.
+-- The lines of a file are the one list of lines that makes it.
 use Prim.Native.Nat.{ℕ, zero, suc, _+_, _≤_, _<_}
 use mathlib.Core.Path.{_≡_, refl, sym, ap, subst, _∙_}
 use mathlib.Core.List.{List, [], _∷_, _++_}
-use mathlib.Core.Bool.{Bool, true, false, cond, not, false≢true}
+use mathlib.Core.Bool.{Bool, true, false, cond, not}
 use native.Mathlib.Nat.{add-zero}
 use native.Mathlib.Omega.{arith}
 use borrow.Author.Tests.{eqb-true, not-true}
@@ -10,13 +10,10 @@ use lib.Dec.{eqb, ltb}
 use lib.ListN.{length, take, drop, length-drop, take-append-drop}
 use lib.Seq.{drop-append-seam, take-append-seam, take-all, drop-drop}
 use Rattle.text.specs.Bytes as by
-use Rattle.text.specs.Bytes.{isSpace, inLine, All, allOf, begins}
+use Rattle.text.specs.Bytes.{inLine, All}
 use Rattle.text.specs.Lines.{endLen, contentLen, lineEnd, linesOf}
-use Rattle.text.specs.Looks.{lookOf}
-use Rattle.text.specs.LineRules.{File, none, last, next, Free, blank, comment}
-use Rattle.text.specs.declared.LineLook.{LineLook}
-use Rattle.text.specs.declared.LineLook.the-variants.{Comment, Blank, Other}
-use Rattle.text.proofs.Lists.{at-end, all-sound, all-complete}
+use Rattle.text.specs.LineRules.{File, none, last, next}
+use Rattle.text.proofs.Lists.{at-end}
 use Rattle.text.proofs.LineLaws.{lines-none, lines-first}
 
 -- a line's content holds no byte that ends a line
@@ -97,28 +94,3 @@ lines-complete (next {l} {ls} {s} a r) =
 -- So one list of lines makes a file
 pub lines-unique : {ls ms : List (List ℕ)} {s : List ℕ} → File ls s → File ms s → ls ≡ ms
 lines-unique p q = sym (lines-complete p) ∙ lines-complete q
-
--- Free lines
-abbrev pub isFree : LineLook → Bool
-isFree Comment = true
-isFree Blank = true
-isFree Other = false
-
-pub free-sound : (l : List ℕ) → isFree (lookOf l) ≡ true → Free l
-unfolding lookOf begins
-free-sound [] h = blank by.none
-free-sound (b ∷ l) h = go (eqb b 35) (allOf isSpace (b ∷ l)) refl refl h
-  where
-    go : (c s : Bool) → eqb b 35 ≡ c → allOf isSpace (b ∷ l) ≡ s → isFree (cond c Comment (cond s Blank Other)) ≡ true → Free (b ∷ l)
-    go true s e f h = rw (eqb-true b 35 e) comment
-    go false true e f h = blank (all-sound isSpace (b ∷ l) f)
-    go false false e f h = absurd (false≢true h)
-
-pub free-complete : {l : List ℕ} → Free l → isFree (lookOf l) ≡ true
-unfolding lookOf begins
-free-complete comment = refl
-free-complete (blank {l} a) = rw (all-complete isSpace a) (go (begins 35 l))
-  where
-    go : (t : Bool) → isFree (cond t Comment Blank) ≡ true
-    go true = refl
-    go false = refl

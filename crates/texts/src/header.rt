@@ -2,7 +2,7 @@
 use crate::decimal;
 use crate::lent;
 use crate::saying;
-use reading::Reply;
+use records::Reply;
 ghost use Prim.Native.Nat.{_<_, _≤_};
 
 // How many bytes a header has.

@@ -1,5 +1,5 @@
 // What is lent to `write`: rows, and bytes with a mark in each.
-use reading::Reply;
+use records::Reply;
 ghost use Prim.Native.Nat.{_≤_};
 ghost use mathlib.Core.Path.{_≡_};
 ghost use lib.ListN.{length};

@@ -31,7 +31,7 @@ mod lent;
 mod saying;
 
 use header::SIZE;
-use reading::Reply;
+use records::Reply;
 use saying::say;
 ghost use Prim.Native.Nat.{_+_, _≤_};
 ghost use lib.ListN.{length};

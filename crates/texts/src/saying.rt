@@ -1,5 +1,5 @@
 // What is written to standard output.
-use reading::Reply;
+use records::Reply;
 
 // Bytes as they are.
 pub(crate) fn say(words: &[u8]) {

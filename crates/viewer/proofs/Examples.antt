@@ -5,10 +5,10 @@ use mathlib.Core.List.{List, [], _∷_}
 use lib.IntN.{ℤ, pos}
 use lib.ListN.{replicate}
 use Rattle.text.specs.Bytes.{permitted, allOf, begins}
-use Rattle.text.specs.FirstField.{span, endsWell, bareAt, closedAt, quotedAt, fieldAt, fieldOf}
-use Rattle.text.specs.Fields.{fieldsIn, fieldsOf, countOf}
+use Rattle.cutting.specs.FirstField.{span, endsWell, bareAt, closedAt, quotedAt, fieldAt, fieldOf}
+use Rattle.cutting.specs.Fields.{fieldsIn, fieldsOf, countOf}
 use Rattle.text.specs.Lines.{endLen, contentLen, lineEnd}
-use Rattle.reading.specs.Replies.{reply}
+use Rattle.records.specs.Answers.{reply}
 use Rattle.viewer.specs.declared.Step.{Step}
 use Rattle.viewer.specs.Views.{lineAt, nextAt, seenOf, placesIn, placesOf, lineReply, replyAt, stepBy, stepOf, placesAfter}
 

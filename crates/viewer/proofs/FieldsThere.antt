@@ -7,11 +7,11 @@ use native.Mathlib.Omega.{arith}
 use lib.ListN.{length, take, drop, length-drop, length-take}
 use lib.Seq.{take-take, drop-drop}
 use Rattle.text.specs.Bytes.{Field, field}
-use Rattle.text.specs.FirstField.{fieldOf}
-use Rattle.text.specs.Fields.{before, fieldsBy, fieldsIn, fieldsOf}
-use Rattle.text.specs.declared.FieldAnswer.{FieldAnswer}
-use Rattle.text.specs.declared.FieldAnswer.the-variants.{Nothing, Got, Broken}
-use Rattle.text.proofs.Bounds.{Lies, Bounded, bounded}
+use Rattle.cutting.specs.FirstField.{fieldOf}
+use Rattle.cutting.specs.Fields.{before, fieldsBy, fieldsIn, fieldsOf}
+use Rattle.cutting.specs.declared.FieldAnswer.{FieldAnswer}
+use Rattle.cutting.specs.declared.FieldAnswer.the-variants.{Nothing, Got, Broken}
+use Rattle.cutting.proofs.Bounds.{Lies, Bounded, bounded}
 use Rattle.viewer.specs.Views.{lookedAt, lineAt, placesBy, placesIn, placesOf}
 use Rattle.viewer.specs.Handing.{textsAt, fieldBytes}
 

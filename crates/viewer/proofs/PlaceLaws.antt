@@ -13,14 +13,14 @@ use lib.IntN.{ℤ, pos}
 use lib.ListN.{length, take, drop, set, length-set, length-drop, take-append-drop}
 use lib.Seq.{drop-drop}
 use Rattle.text.specs.Bytes.{Field, field}
-use Rattle.text.specs.FirstField.{fieldOf}
-use Rattle.text.specs.Fields.{before, fieldsBy, fieldsIn, fieldsOf, countBy, countOf}
-use Rattle.text.specs.declared.FieldAnswer.{FieldAnswer}
-use Rattle.text.specs.declared.FieldAnswer.the-variants.{Nothing, Got, Broken}
-use Rattle.text.specs.declared.CountAnswer.the-variants.{Fields as Counted}
+use Rattle.cutting.specs.FirstField.{fieldOf}
+use Rattle.cutting.specs.Fields.{before, fieldsBy, fieldsIn, fieldsOf, countBy, countOf}
+use Rattle.cutting.specs.declared.FieldAnswer.{FieldAnswer}
+use Rattle.cutting.specs.declared.FieldAnswer.the-variants.{Nothing, Got, Broken}
+use Rattle.cutting.specs.declared.CountAnswer.the-variants.{Fields as Counted}
 use Rattle.text.proofs.Lists.{rest}
-use Rattle.text.proofs.Bounds.{Lies, Bounded, bounded}
-use Rattle.reading.specs.Replies.{over}
+use Rattle.cutting.proofs.Bounds.{Lies, Bounded, bounded}
+use Rattle.records.specs.Answers.{over}
 use Rattle.viewer.specs.Views.{placesBy, placesIn, placesOf}
 
 -- two numbers for each field of a line whose quoting is sound

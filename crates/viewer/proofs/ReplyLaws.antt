@@ -12,15 +12,14 @@ use lib.IntN.{ℤ}
 use lib.ListN.{length, take, drop, length-drop, length-take}
 use Rattle.text.specs.Bytes.{permitted, allOf, begins}
 use Rattle.text.specs.Lines.{lineEnd}
-use Rattle.text.specs.Fields.{countOf}
-use Rattle.text.specs.declared.CountAnswer.{CountAnswer}
-use Rattle.text.specs.declared.CountAnswer.the-variants.{Fields as Counted, Bad}
+use Rattle.cutting.specs.Fields.{countOf}
+use Rattle.cutting.specs.declared.CountAnswer.{CountAnswer}
+use Rattle.cutting.specs.declared.CountAnswer.the-variants.{Fields as Counted, Bad}
 use Rattle.text.specs.declared.LineEnd.{LineEnd}
 use Rattle.text.proofs.Lists.{rest}
 use Rattle.text.proofs.LineLaws.{line-inside}
-use Rattle.reading.specs.declared.Reply.{Reply}
-use Rattle.reading.specs.Walks.{limit}
-use Rattle.reading.specs.Replies.{reply, over}
+use Rattle.records.specs.declared.Reply.{Reply}
+use Rattle.records.specs.Answers.{limit, reply, over}
 use Rattle.viewer.specs.declared.Step.{Step}
 use Rattle.viewer.specs.declared.Seen.{Seen}
 use Rattle.viewer.specs.declared.Seen.the-variants.{Fields, Refused}

@@ -6,7 +6,7 @@ use lib.IntN.{ℤ}
 use lib.ListN.{length, drop}
 use Rattle.text.specs.Bytes.{Field, field}
 use Rattle.text.specs.Lines.{linesOf}
-use Rattle.reading.specs.Names.{textAt}
+use Rattle.spans.specs.Texts.{textAt}
 
 -- the bytes that a start and a length name in a file, for each two numbers
 unfoldable pub textsAt : List ℕ → List ℤ → List (List ℕ)

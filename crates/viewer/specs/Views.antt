@@ -7,15 +7,14 @@ use lib.IntN.{ℤ, pos}
 use lib.ListN.{length, take, drop}
 use Rattle.text.specs.Bytes.{permitted, allOf, begins}
 use Rattle.text.specs.Lines.{lineEnd}
-use Rattle.text.specs.FirstField.{fieldOf}
-use Rattle.text.specs.Fields.{countOf}
-use Rattle.text.specs.declared.FieldAnswer.{FieldAnswer}
-use Rattle.text.specs.declared.FieldAnswer.the-variants.{Nothing, Got, Broken}
-use Rattle.text.specs.declared.CountAnswer.{CountAnswer}
-use Rattle.text.specs.declared.CountAnswer.the-variants.{Fields as Counted, Bad}
-use Rattle.reading.specs.declared.Reply.{Reply}
-use Rattle.reading.specs.Walks.{limit}
-use Rattle.reading.specs.Replies.{reply, over}
+use Rattle.cutting.specs.FirstField.{fieldOf}
+use Rattle.cutting.specs.Fields.{countOf}
+use Rattle.cutting.specs.declared.FieldAnswer.{FieldAnswer}
+use Rattle.cutting.specs.declared.FieldAnswer.the-variants.{Nothing, Got, Broken}
+use Rattle.cutting.specs.declared.CountAnswer.{CountAnswer}
+use Rattle.cutting.specs.declared.CountAnswer.the-variants.{Fields as Counted, Bad}
+use Rattle.records.specs.declared.Reply.{Reply}
+use Rattle.records.specs.Answers.{limit, reply, over}
 use Rattle.viewer.specs.declared.Step.{Step}
 use Rattle.viewer.specs.declared.Seen.{Seen}
 use Rattle.viewer.specs.declared.Seen.the-variants.{Fields, Refused}

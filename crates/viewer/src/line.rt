@@ -1,17 +1,17 @@
 // The fields of the line at a place of a file, into a lent slice. Any place and any line number have an answer.
 use crate::Seen;
 use crate::Step;
-use reading::LIMIT;
-use reading::Reply;
-use text::CountAnswer;
-use text::FieldAnswer;
+use cutting::CountAnswer;
+use cutting::FieldAnswer;
+use records::LIMIT;
+use records::Reply;
 ghost use mathlib.Core.Path.{_≡_};
 ghost use mathlib.Core.Bool.{cond};
 ghost use Prim.Native.Nat.{_+_, _^_, _≤_, _<_};
 ghost use lib.IntN.{pos};
 ghost use lib.ListN.{length, set};
 ghost use Rattle.text.specs.Bytes.{begins};
-ghost use Rattle.reading.specs.Replies.{over};
+ghost use Rattle.records.specs.Answers.{over};
 ghost use Rattle.viewer.specs.Views.{seenOf, placesOf, lineReply, linePlaces, movesOn, lineAfter, stepBy, stepOf, placesAfter};
 
 // What a line holds.
@@ -21,7 +21,7 @@ fn fields_in(line: &[u8]) -> Seen
     if !text::clean(line) {
         return Seen::Refused(3);
     }
-    match text::count_fields(line) {
+    match cutting::count_fields(line) {
         CountAnswer::Fields(n) => Seen::Fields(n),
         CountAnswer::Bad => Seen::Refused(4),
     }
@@ -44,7 +44,7 @@ fn put_fields(line: &[u8], base: usize, out: &mut [i64])
     let mut at = 0;
     let mut n = 0;
     loop {
-        match text::field(&line[at..]) {
+        match cutting::field(&line[at..]) {
             FieldAnswer::Nothing => {
                 return;
             }

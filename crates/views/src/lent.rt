@@ -1,5 +1,5 @@
 // Numbers lent to a call: a mark in each, and which of them still have it.
-use reading::Reply;
+use records::Reply;
 ghost use Prim.Native.Nat.{_≤_};
 ghost use mathlib.Core.Path.{_≡_};
 ghost use lib.ListN.{length};

@@ -1,5 +1,5 @@
 // What is written to standard output.
-use reading::Reply;
+use records::Reply;
 use viewer::Step;
 
 // Bytes as they are.

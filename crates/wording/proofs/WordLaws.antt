@@ -14,7 +14,7 @@ use Rattle.text.proofs.Lists.{at-cons, at-end}
 use Rattle.printing.specs.Printing.{Wrote}
 use Rattle.printing.proofs.PrintLaws.{wrote-length, wrote-more}
 use Rattle.form.specs.Fits.{isEmpty}
-use Rattle.form.specs.Padded.{trimmed}
+use Rattle.words.specs.Padded.{trimmed}
 use Rattle.spelling.specs.Canonical.{noSpace, needsQuotes, written}
 
 -- Bytes, one after the other

@@ -4,7 +4,7 @@ ghost use Prim.Native.Nat.{_+_, _≤_};
 ghost use lib.ListN.{length};
 ghost use Rattle.text.specs.Bytes.{allOf, field};
 ghost use Rattle.printing.specs.Printing.{Wrote};
-ghost use Rattle.form.specs.Padded.{trimmed};
+ghost use Rattle.words.specs.Padded.{trimmed};
 ghost use Rattle.spelling.specs.Canonical.{noSpace, needsQuotes, written};
 
 // The bytes of a slice.

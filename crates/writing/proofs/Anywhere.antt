@@ -2,15 +2,15 @@
 use Prim.Native.Nat.{ℕ, _+_}
 use mathlib.Core.Path.{_≡_, refl}
 use mathlib.Core.List.{List, [], _∷_}
-use mathlib.Core.Bool.{Bool, true, false, not, cond, _&&_, true≢false, false≢true}
+use mathlib.Core.Bool.{Bool, true, false, not, cond, _&&_, false≢true}
 use lib.Dec.{leb}
 use lib.IntN.{ℤ, natAbs}
-use lib.ListN.{length, drop}
+use lib.ListN.{length}
 use Rattle.text.proofs.Lists.{and-left, and-right}
 use Rattle.measure.specs.Limits.{largestLength}
 use Rattle.measure.specs.Signs.{below}
 use Rattle.form.specs.Values.{text}
-use Rattle.form.specs.Letters.{widthOf, isKind}
+use Rattle.layouts.specs.Letters.{widthOf, isKind}
 use Rattle.form.specs.Layouts.{typesOf}
 use Rattle.form.specs.Fits.{under, barred, goodText, within, fits}
 use Rattle.form.specs.declared.Rules.{Rules}
@@ -24,9 +24,9 @@ use Rattle.records.specs.declared.State.{State}
 use Rattle.records.specs.declared.Outcome.{Outcome}
 use Rattle.records.specs.declared.Outcome.the-variants.{Next, Refused}
 use Rattle.records.specs.declared.Reason.the-variants.{Unfit}
-use Rattle.reading.specs.Judging.{columnAt, typeInRow, pointIn}
-use Rattle.reading.specs.Names.{textAt}
-use Rattle.columns.specs.Columns.{liesIn, rangeFits, numberFits, fieldFits, columnFits, allZero, fieldsFit, kindIn, rowFits}
+use Rattle.walking.specs.Judging.{columnAt, typeInRow, pointIn}
+use Rattle.spans.specs.Texts.{textAt}
+use Rattle.columns.specs.Columns.{liesIn, rangeFits, numberFits, fieldFits, columnFits, fieldsFit, kindIn, rowFits}
 use Rattle.setting.specs.LineText.{anywhere}
 use Rattle.writing.specs.Writable.{rowStep, carries}
 use Rattle.writing.specs.Outcomes.{allFit}

@@ -10,9 +10,9 @@ use lib.ListN.{length, drop}
 use Rattle.slots.specs.Looks.{looks}
 use Rattle.slots.specs.Slots.{mayHold, marked}
 use Rattle.slots.proofs.SlotLaws.{marking-length, marking-keeps, marking-here}
-use Rattle.reading.specs.Names.{leadsComponent, sameNames}
-use Rattle.reading.specs.Marks.{keyOf}
-use Rattle.reading.proofs.MarkLaws.{same-key}
+use Rattle.naming.specs.Names.{leadsComponent, sameNames}
+use Rattle.naming.specs.Marks.{keyOf}
+use Rattle.naming.proofs.KeyLaws.{same-key}
 use Rattle.writing.specs.WholeRows.{wholeRows, rowIn}
 use Rattle.writing.specs.Writable.{namesIt, namedIn, twice}
 use Rattle.writing.specs.Marks.{markedRow, Told}
@@ -55,7 +55,7 @@ module _ (bytes marks : List ℕ) (y : List ℤ) (room : looks < length marks) w
 
   clear-here : (x : List ℤ) → mayHold (markedRow bytes marks y) (keyOf bytes x) ≡ false → namesIt bytes x y ≡ false
   unfolding markedRow namesIt
-  clear-here x h = marking-here marks (keyOf bytes y) room (leadsComponent y) (sameNames bytes x y) (keyOf bytes x) (λ e. sym (same-key bytes x y e)) h
+  clear-here x h = marking-here marks (keyOf bytes y) room (leadsComponent y) (sameNames bytes x bytes y) (keyOf bytes x) (λ e. sym (same-key bytes x bytes y e)) h
 
   told-more : (ys : List (List ℤ)) → Told bytes ys marks → Told bytes (y ∷ ys) (markedRow bytes marks y)
   unfolding namedIn

@@ -5,7 +5,7 @@ use mathlib.Core.List.{List}
 use mathlib.Core.Bool.{Bool, true, false, _||_}
 use lib.IntN.{ℤ}
 use lib.ListN.{length, drop}
-use Rattle.reading.specs.Names.{leadsComponent, sameNames}
+use Rattle.naming.specs.Names.{leadsComponent, sameNames}
 use Rattle.writing.specs.WholeRows.{wholeRows, rowIn}
 use Rattle.writing.specs.Writable.{namesIt, namedIn}
 use Rattle.writing.proofs.RowLaws.{row-here, row-none}
@@ -15,7 +15,7 @@ module _ (bytes : List ℕ) (x y : List ℤ) (a : Bool) (e : a ≡ leadsComponen
   unfolding namesIt
   names-not h = rw (sym e ∙ h)
 
-  pub names-by : (b : Bool) → a ≡ true → b ≡ sameNames bytes x y → b ≡ namesIt bytes x y
+  pub names-by : (b : Bool) → a ≡ true → b ≡ sameNames bytes x bytes y → b ≡ namesIt bytes x y
   unfolding namesIt
   names-by b h i = rw (sym e ∙ h) i
 

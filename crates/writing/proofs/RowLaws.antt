@@ -24,8 +24,8 @@ use Rattle.records.specs.declared.Reason.{Reason}
 use Rattle.records.specs.declared.Reason.the-variants.{Unfit}
 use Rattle.records.specs.declared.Outcome.{Outcome}
 use Rattle.records.specs.declared.Outcome.the-variants.{Next, Refused}
-use Rattle.reading.specs.Judging.{columnAt, typeInRow, pointIn}
-use Rattle.columns.specs.Columns.{kindIn, rowFits}
+use Rattle.walking.specs.Judging.{columnAt, typeInRow, pointIn}
+use Rattle.columns.specs.Columns.{rowFits}
 use Rattle.writing.specs.declared.Stood.{Stood}
 use Rattle.writing.specs.WholeRows.{chunks, wholeRows, rowIn}
 use Rattle.writing.specs.Writable.{rowStep, stoodBy, carries}

@@ -11,7 +11,7 @@ use Rattle.text.proofs.Lists.{and-left, and-right}
 use Rattle.printing.specs.Printing.{Wrote}
 use Rattle.printing.proofs.PrintLaws.{wrote-length, wrote-more}
 use Rattle.form.specs.declared.Rules.{Rules}
-use Rattle.reading.specs.Walks.{limit}
+use Rattle.records.specs.Answers.{limit}
 use Rattle.columns.specs.Columns.{rowFits}
 use Rattle.setting.specs.LineText.{lineText, anywhere, upTo}
 use Rattle.setting.proofs.PieceLaws.{up-again, up-over, up-in, up-small}

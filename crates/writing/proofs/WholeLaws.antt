@@ -1,11 +1,11 @@
 -- Laws of `write`, as the code leaves them.
 use Prim.Native.Nat.{ℕ, _≤_, _<_}
-use mathlib.Core.Path.{_≡_, refl, sym, ap, _∙_}
+use mathlib.Core.Path.{_≡_, refl, sym, _∙_}
 use mathlib.Core.List.{List}
-use mathlib.Core.Bool.{Bool, true, false, not, cond, _&&_}
+use mathlib.Core.Bool.{Bool, true, false, not}
 use native.Mathlib.Omega.{arith}
 use borrow.Author.Tests.{lt-ltb, le-ltb, not-true, not-false}
-use lib.Dec.{ltb, eqb}
+use lib.Dec.{eqb}
 use lib.IntN.{ℤ}
 use lib.ListN.{length}
 use lib.Seq.{sets}
@@ -13,9 +13,8 @@ use Rattle.text.proofs.Lists.{and-left}
 use Rattle.form.specs.declared.Rules.{Rules}
 use Rattle.form.specs.declared.Rules.the-variants.{Idf3}
 use Rattle.records.specs.Automaton.{start}
-use Rattle.reading.specs.Walks.{limit}
-use Rattle.reading.specs.Replies.{reply}
-use Rattle.reading.specs.declared.Reply.{Reply}
+use Rattle.records.specs.Answers.{limit, reply}
+use Rattle.records.specs.declared.Reply.{Reply}
 use Rattle.setting.specs.LineText.{upTo}
 use Rattle.setting.proofs.PieceLaws.{up-under, up-past}
 use Rattle.writing.specs.WholeRows.{wholeRows}

@@ -7,8 +7,8 @@ use lib.IntN.{ℤ}
 use lib.ListN.{length}
 use Rattle.slots.specs.Looks.{looks}
 use Rattle.slots.specs.Slots.{mayHold, marked}
-use Rattle.reading.specs.Names.{leadsComponent}
-use Rattle.reading.specs.Marks.{keyOf}
+use Rattle.naming.specs.Names.{leadsComponent}
+use Rattle.naming.specs.Marks.{keyOf}
 use Rattle.writing.specs.Writable.{namedIn}
 
 -- with the mark of a row that names a component

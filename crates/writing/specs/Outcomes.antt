@@ -8,9 +8,8 @@ use lib.ListN.{length}
 use lib.Seq.{sets}
 use Rattle.form.specs.declared.Rules.{Rules}
 use Rattle.form.specs.declared.Rules.the-variants.{Idf3}
-use Rattle.reading.specs.Walks.{limit}
-use Rattle.reading.specs.Replies.{reply}
-use Rattle.reading.specs.declared.Reply.{Reply}
+use Rattle.records.specs.Answers.{limit, reply}
+use Rattle.records.specs.declared.Reply.{Reply}
 use Rattle.columns.specs.Columns.{rowFits}
 use Rattle.setting.specs.LineText.{lineText, anywhere}
 use Rattle.writing.specs.WholeRows.{wholeRows}

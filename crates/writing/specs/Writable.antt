@@ -10,8 +10,8 @@ use Rattle.records.specs.declared.State.{State}
 use Rattle.records.specs.declared.Reason.the-variants.{Unfit}
 use Rattle.records.specs.declared.Outcome.{Outcome}
 use Rattle.records.specs.declared.Outcome.the-variants.{Next, Refused}
-use Rattle.reading.specs.Judging.{typeInRow, pointIn}
-use Rattle.reading.specs.Names.{leadsComponent, sameNames}
+use Rattle.walking.specs.Judging.{typeInRow, pointIn}
+use Rattle.naming.specs.Names.{leadsComponent, sameNames}
 use Rattle.columns.specs.Columns.{kindIn, rowFits}
 use Rattle.writing.specs.declared.Stood.{Stood}
 
@@ -30,7 +30,7 @@ carries v bytes st (x ∷ xs) = accepted (rowStep v bytes st x) (λ t. carries v
 
 -- a row names the component that x names
 unfoldable pub namesIt : List ℕ → List ℤ → List ℤ → Bool
-namesIt bytes x y = leadsComponent y && sameNames bytes x y
+namesIt bytes x y = leadsComponent y && sameNames bytes x bytes y
 
 unfoldable pub namedIn : List ℕ → List ℤ → List (List ℤ) → Bool
 namedIn bytes x [] = false

@@ -1,16 +1,16 @@
 // Components by name, among rows: no two share both geometry and part.
 use crate::rows;
 use lines::WIDTH;
-use reading::MARKS;
-use reading::names::key;
-use reading::names::leads_component;
-use reading::names::same_names;
+use naming::MARKS;
+use naming::key;
+use naming::leads_component;
+use naming::same_names;
 ghost use mathlib.Core.Path.{_≡_};
 ghost use mathlib.Core.Bool.{_&&_};
 ghost use Prim.Native.Nat.{_<_};
 ghost use lib.ListN.{length, drop};
 ghost use Rattle.slots.specs.Looks.{looks};
-ghost use Rattle.reading.specs.Names.{leadsComponent};
+ghost use Rattle.naming.specs.Names.{leadsComponent};
 ghost use Rattle.writing.specs.WholeRows.{wholeRows};
 ghost use Rattle.writing.specs.Writable.{namesIt, namedIn, twice};
 ghost use Rattle.writing.specs.Marks.{markedRow, Told};
@@ -20,7 +20,7 @@ fn names_it(bytes: &[u8], x: [i64; WIDTH], y: [i64; WIDTH]) -> bool
     ensures { λ r. ⌜ r ≡ namesIt (now (bytes .entry)) x y ⌝ }
 {
     if leads_component(y) {
-        return same_names(bytes, x, y);
+        return same_names(bytes, x, bytes, y);
     }
     false
 }

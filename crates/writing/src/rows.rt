@@ -7,7 +7,6 @@ use records::Outcome;
 use records::Reason;
 use records::Stage;
 use records::State;
-use records::states;
 ghost use mathlib.Core.Path.{_≡_};
 ghost use Prim.Native.Nat.{_/_, _<_};
 ghost use lib.ListN.{length};
@@ -48,8 +47,8 @@ fn step(v: Rules, bytes: &[u8], st: State, row: [i64; WIDTH]) -> Outcome
         v,
         st,
         kind,
-        reading::line::type_in(row),
-        reading::line::point_in(row),
+        walking::line::type_in(row),
+        walking::line::point_in(row),
     )
 }
 

@@ -2,7 +2,7 @@
 use crate::rows;
 use form::Rules;
 use lines::WIDTH;
-use reading::LIMIT;
+use records::LIMIT;
 ghost use mathlib.Core.Path.{_≡_};
 ghost use mathlib.Core.Bool.{true};
 ghost use Prim.Native.Nat.{_≤_};

@@ -15,7 +15,7 @@ use Rattle.form.specs.Compare.{sameBytes, wordAt}
 use Rattle.form.specs.Sections.{sections}
 use Rattle.form.specs.Kinds.{sectionOf, lineOf, roleOf}
 use Rattle.form.specs.Layouts.{layoutOf, typesOf}
-use Rattle.form.specs.Letters.{isKind}
+use Rattle.layouts.specs.Letters.{isKind}
 use Rattle.form.specs.Fits.{within, meaning, barred, isEmpty, goodText, fits, fitsAll, wellFormed}
 use Rattle.form.specs.declared.Rules.the-variants.{Idf3}
 use Rattle.spelling.specs.Canonical.{needsQuotes, canonicalField, canonicalFields, written, joined, canonicalLine, canonicalRecord}
@@ -26,9 +26,10 @@ use Rattle.records.specs.Stages.{mayOpen, after}
 use Rattle.records.specs.Automaton.{advance, mayStand, moved, stepped}
 use Rattle.permitted.specs.ListRules.{nothing-named}
 use Rattle.permitted.proofs.Sound.{accepted-permitted}
-use Rattle.reading.specs.Walks.{limit}
-use Rattle.reading.specs.Names.{sameText, sameNames}
-use Rattle.reading.specs.Replies.{reply, checkReply}
+use Rattle.records.specs.Answers.{limit, reply}
+use Rattle.spans.specs.Texts.{sameTexts}
+use Rattle.naming.specs.Names.{sameNames}
+use Rattle.reading.specs.Replies.{checkReply}
 use Rattle.columns.specs.Columns.{liesIn, rangeFits, integerFits, numberFits, wordFits, allZero, fieldsFit, rowFits}
 use Rattle.columns.specs.Records.{valuesIn}
 use Rattle.setting.specs.LineText.{lineText}
@@ -79,7 +80,7 @@ pub writes :
     × (textOf Idf3 lent (wholeRows (header 1 0 ++ component 19 20)) ≡ headerText ++ componentText)
     × (writeReply (header 1 0 ++ component 19 20) lent 200 ≡ reply 0 0 158)
     × (writeReply (header 1 0 ++ (component 19 20 ++ component 20 19)) lent 255 ≡ reply 0 0 255)
-unfolding writeReply writeText textOf lineText canonicalRecord canonicalLine canonicalFields canonicalField written joined needsQuotes isEmpty allOf begins permitted printed signOf magnitudeOf numeralOf decimalsOf wordsOf wordAt layoutOf typesOf sectionOf lineOf roleOf sections sectionNames isKind wholeRows chunks writable carries rowStep twice namedIn namesIt sameNames sameText sameBytes rowFits fieldsFit allZero rangeFits liesIn integerFits numberFits wordFits fits within goodText meaning barred isDate fitsIn isTwo datePieces stepped mayStand moved mayOpen after shapeOf manyLoops loopAfter eqZ valuesIn
+unfolding writeReply writeText textOf lineText canonicalRecord canonicalLine canonicalFields canonicalField written joined needsQuotes isEmpty allOf begins permitted printed signOf magnitudeOf numeralOf decimalsOf wordsOf wordAt layoutOf typesOf sectionOf lineOf roleOf sections sectionNames isKind wholeRows chunks writable carries rowStep twice namedIn namesIt sameNames sameTexts sameBytes rowFits fieldsFit allZero rangeFits liesIn integerFits numberFits wordFits fits within goodText meaning barred isDate fitsIn isTwo datePieces stepped mayStand moved mayOpen after shapeOf manyLoops loopAfter eqZ valuesIn
 writes = (refl, refl, refl, refl, refl, refl, refl, refl)
 
 -- 15: no rows; a header that ends too early; bytes past those lent; a number behind the values; a kind that no section has; a name used twice
@@ -90,7 +91,7 @@ pub refuses :
     × (writeReply (header 1 1) lent 100 ≡ reply 15 0 0)
     × (writeReply (header 1 0 ++ blank 160) lent 100 ≡ reply 15 0 0)
     × (writeReply (header 1 0 ++ (component 19 20 ++ component 19 20)) lent 100 ≡ reply 15 0 0)
-unfolding writeReply writeText textOf lineText canonicalRecord canonicalLine canonicalFields canonicalField written joined needsQuotes isEmpty allOf begins permitted printed signOf magnitudeOf numeralOf decimalsOf wordsOf wordAt layoutOf typesOf sectionOf lineOf roleOf sections sectionNames isKind wholeRows chunks writable carries rowStep twice namedIn namesIt sameNames sameText sameBytes rowFits fieldsFit allZero rangeFits liesIn integerFits numberFits wordFits fits within goodText meaning barred isDate fitsIn isTwo datePieces stepped mayStand moved mayOpen after shapeOf manyLoops loopAfter eqZ valuesIn
+unfolding writeReply writeText textOf lineText canonicalRecord canonicalLine canonicalFields canonicalField written joined needsQuotes isEmpty allOf begins permitted printed signOf magnitudeOf numeralOf decimalsOf wordsOf wordAt layoutOf typesOf sectionOf lineOf roleOf sections sectionNames isKind wholeRows chunks writable carries rowStep twice namedIn namesIt sameNames sameTexts sameBytes rowFits fieldsFit allZero rangeFits liesIn integerFits numberFits wordFits fits within goodText meaning barred isDate fitsIn isTwo datePieces stepped mayStand moved mayOpen after shapeOf manyLoops loopAfter eqZ valuesIn
 refuses = (refl, refl, refl, refl, refl, refl)
 
 abbrev of : ℕ → List Value → Rec

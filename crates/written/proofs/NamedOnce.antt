@@ -14,7 +14,8 @@ use Rattle.records.specs.Marks.{Named, namesAComponent, nameIn}
 use Rattle.records.specs.Automaton.{sameName, isAmong}
 use Rattle.permitted.specs.ListRules.{namesOf, AllDiffer, nothing-named, and-new, Distinct}
 use Rattle.permitted.proofs.Names.{not-among, among-false}
-use Rattle.reading.specs.Names.{sameText, sameNames}
+use Rattle.spans.specs.Texts.{sameTexts}
+use Rattle.naming.specs.Names.{sameNames}
 use Rattle.writing.specs.Writable.{namesIt, namedIn, twice}
 use Rattle.files.proofs.RowColumns.{nameAt, name-in, names-is}
 use Rattle.written.specs.Texts.{ListMeans, none, more}
@@ -36,8 +37,8 @@ module _ (v : Rules) (bytes : List ℕ) where
   -- x holds a record that names a component
   module _ (x : List ℤ) (r : Rec) (h : Holds bytes (r .kind) (typesOf v (r .kind)) x (r .values)) (e : namesAComponent v (r .kind) ≡ true) where
     same-is : (y : List ℤ) (q : Rec) → Holds bytes (q .kind) (typesOf v (q .kind)) y (q .values) → namesAComponent v (q .kind) ≡ true
-        → sameNames bytes x y ≡ sameName (nameIn r) (nameIn q)
-    unfolding sameNames sameText
+        → sameNames bytes x bytes y ≡ sameName (nameIn r) (nameIn q)
+    unfolding sameNames sameTexts
     same-is y q g f =
         ap (λ (a : Named). sameName a (nameAt bytes y)) (name-in bytes v (r .kind) x (r .values) h e)
         ∙ ap (λ (b : Named). sameName (nameIn r) b) (name-in bytes v (q .kind) y (q .values) g f)
@@ -48,7 +49,7 @@ module _ (v : Rules) (bytes : List ℕ) where
     named-is (more {r = q} {rs = qs} {x = y} g m) = rw (names-is bytes v (q .kind) y (q .values) g, named-is m) (go (namesAComponent v (q .kind)) refl)
       where
         go : (b : Bool) → namesAComponent v (q .kind) ≡ b
-            → (b && sameNames bytes x y || isAmong (nameIn r) (namesOf v qs)) ≡ isAmong (nameIn r) (cond b (nameIn q ∷ namesOf v qs) (namesOf v qs))
+            → (b && sameNames bytes x bytes y || isAmong (nameIn r) (namesOf v qs)) ≡ isAmong (nameIn r) (cond b (nameIn q ∷ namesOf v qs) (namesOf v qs))
         go true f = ap (λ (c : Bool). c || isAmong (nameIn r) (namesOf v qs)) (same-is y q g f)
         go false f = refl
 

@@ -14,8 +14,8 @@ use Rattle.form.specs.declared.Rules.{Rules}
 use Rattle.form.specs.declared.Rules.the-variants.{Idf3}
 use Rattle.lines.specs.Rows.{width}
 use Rattle.permitted.specs.ListRules.{Permitted, Distinct}
-use Rattle.reading.specs.Walks.{limit}
-use Rattle.reading.specs.Replies.{reply, checkReply, rowsOf, readRows}
+use Rattle.records.specs.Answers.{limit, reply}
+use Rattle.reading.specs.Replies.{checkReply, rowsOf, readRows}
 use Rattle.writing.specs.Outcomes.{sizedReply, writeReply, writeText}
 use Rattle.files.specs.WholeRules.{titled, FileSays}
 use Rattle.files.specs.Outcomes.{RowsMean}

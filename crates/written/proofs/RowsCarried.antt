@@ -19,7 +19,7 @@ use Rattle.records.specs.declared.Reason.the-variants.{Misplaced, Unfit}
 use Rattle.records.specs.declared.Outcome.{Outcome}
 use Rattle.records.specs.declared.Outcome.the-variants.{Next, Refused}
 use Rattle.records.proofs.Steps.{advance-is, advance-stepped}
-use Rattle.reading.specs.Judging.{typeInRow, pointIn}
+use Rattle.walking.specs.Judging.{typeInRow, pointIn}
 use Rattle.columns.specs.Columns.{kindIn, rowFits}
 use Rattle.columns.specs.Records.{recordIn}
 use Rattle.columns.proofs.RowRecords.{fits-record}

@@ -16,9 +16,8 @@ use Rattle.form.specs.declared.Rules.the-variants.{Idf3}
 use Rattle.records.specs.Automaton.{start}
 use Rattle.permitted.proofs.Sound.{accepted-permitted}
 use Rattle.permitted.proofs.Complete.{permitted-accepted}
-use Rattle.reading.specs.Walks.{limit}
-use Rattle.reading.specs.Replies.{reply}
-use Rattle.reading.specs.declared.Reply.{Reply}
+use Rattle.records.specs.Answers.{limit, reply}
+use Rattle.records.specs.declared.Reply.{Reply}
 use Rattle.writing.specs.WholeRows.{wholeRows}
 use Rattle.writing.specs.Writable.{carries, twice, writable}
 use Rattle.writing.specs.Outcomes.{textOf, sizedReply, writeReply, writeText}

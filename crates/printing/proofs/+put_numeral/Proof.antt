@@ -1,4 +1,4 @@
--- `printing::put_numeral` meets its contract. Assumes nothing.
+-- `printing::+put_numeral` meets its contract. Assumes nothing.
 use borrow.Author.Needs.{needs}
 use Rattle.printing.proofs.PrintLaws.{wrote-length, top-zero, top-less, mod-ten, numeral-zero, numeral-small, numeral-more, room-zero, room-small, room-less, numeral-room}
 use Prim.Native.Nat.{ℕ, _<_}

@@ -1,8 +1,7 @@
 -- `setting::put_fields` meets its contract. Assumes nothing.
 use Prim.Native.Nat.{_-_}
-use Rattle.setting.proofs.WholeLaws.{Putting}
+use Rattle.setting.proofs.WholeLaws.{Putting, put-start, put-over, put-same, put-few, put-type, put-fits, put-add, put-room, put-more}
 use borrow.Author.Needs.{needs}
-use Rattle.setting.proofs.WholeLaws.{put-start, put-over, put-same, put-few, put-type, put-fits, put-add, put-room, put-more}
 use Rattle.setting.proofs.put_fields.Statement.{statement}
 use Rattle.setting.proofs.put_fields.Tie as tie
 

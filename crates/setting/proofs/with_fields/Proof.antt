@@ -1,8 +1,7 @@
 -- `setting::with_fields` meets its contract. Assumes nothing.
 use Prim.Native.Nat.{_-_}
-use Rattle.setting.proofs.WholeLaws.{Summing}
+use Rattle.setting.proofs.WholeLaws.{Summing, sum-start, sum-over, sum-few, sum-small, sum-type, sum-fits, sum-add, sum-more}
 use borrow.Author.Needs.{needs}
-use Rattle.setting.proofs.WholeLaws.{sum-start, sum-over, sum-few, sum-small, sum-type, sum-fits, sum-add, sum-more}
 use Rattle.setting.proofs.with_fields.Statement.{statement}
 use Rattle.setting.proofs.with_fields.Tie as tie
 

@@ -1,9 +1,8 @@
 -- `slots::hash` meets its contract. Assumes nothing.
 use borrow.Author.Needs.{needs}
-use Rattle.slots.proofs.HashLaws.{hash-start, stirred-fits, sum-fits, hash-more, hash-over}
+use Rattle.slots.proofs.HashLaws.{hash-start, stirred-fits, sum-fits, hash-more, hash-over, Hashing}
 use Prim.Native.Nat.{_-_}
 use lib.ListN.{length}
-use Rattle.slots.proofs.HashLaws.{Hashing}
 use Rattle.slots.proofs.hash.Statement.{statement}
 use Rattle.slots.proofs.hash.Tie as tie
 

@@ -1,9 +1,8 @@
 -- `slots::put_mark` meets its contract. Assumes nothing.
 use borrow.Author.Needs.{needs}
-use Rattle.slots.proofs.SlotLaws.{putting-start, putting-length, putting-over-look, putting-over, putting-within, putting-empty-look, putting-empty, putting-empty-length, putting-here-look, putting-here, putting-more}
+use Rattle.slots.proofs.SlotLaws.{putting-start, putting-length, putting-over-look, putting-over, putting-within, putting-empty-look, putting-empty, putting-empty-length, putting-here-look, putting-here, putting-more, Putting}
 use Prim.Native.Nat.{_-_}
 use Rattle.slots.specs.Looks.{looks}
-use Rattle.slots.proofs.SlotLaws.{Putting}
 use Rattle.slots.proofs.put_mark.Statement.{statement}
 use Rattle.slots.proofs.put_mark.Tie as tie
 

@@ -1,4 +1,4 @@
--- `scan::class` meets its contract: each arm's numbers say which law of `classOf` holds.
+-- `text::class` meets its contract: each arm's numbers say which law of `classOf` holds.
 -- Assumes nothing.
 use native.Mathlib.Omega.{arith}
 use Rattle.text.proofs.ByteLaws.{space-class, quote-class, low-class, high-class, control-class, delete-class}

@@ -1,9 +1,8 @@
 -- `text::clean` meets its contract. Assumes nothing.
 use borrow.Author.Needs.{needs}
-use Rattle.text.proofs.StartLaws.{clean-start, clean-more, clean-over}
+use Rattle.text.proofs.ByteLaws.{clean-start, clean-more, clean-over, Cleaning}
 use Prim.Native.Nat.{_-_}
 use lib.ListN.{length}
-use Rattle.text.proofs.StartLaws.{Cleaning}
 use Rattle.text.proofs.clean.Statement.{statement}
 use Rattle.text.proofs.clean.Tie as tie
 

@@ -1,6 +1,6 @@
 -- `comparing::rows::is_ignored` meets its contract. Assumes nothing.
 use borrow.Author.Needs.{needs}
-use Rattle.comparing.proofs.TextLaws.{ignored-here, ignored-other}
+use Rattle.comparing.proofs.IgnoringLaws.{ignored-here, ignored-other}
 use Rattle.comparing.proofs.rows.is_ignored.Statement.{statement}
 use Rattle.comparing.proofs.rows.is_ignored.Tie as tie
 

@@ -9,8 +9,8 @@ ruleset laws = (no-entry, entry-here, needs)
 is-of-requires : tie.Need-is-of-requires
 is-of-requires c κs = search laws
 
-same-entry-requires : tie.Need-same-entry-requires
-same-entry-requires c κs = search laws
+same-names-requires : tie.Need-same-names-requires
+same-names-requires c κs = search laws
 
 returns : tie.Need-returns
 returns c = search laws
@@ -21,4 +21,4 @@ returns-2 c = search laws
 pub is-entry-spec : {M : Type 1} → statement M
 is-entry-spec =
     tie.close
-    (tie.spec is-of-requires same-entry-requires returns returns-2)
+    (tie.spec is-of-requires same-names-requires returns returns-2)

@@ -6,11 +6,11 @@ use Rattle.judging.proofs.whole.placed.Tie as tie
 
 ruleset laws = (filled-stocked, needs)
 
-slice-aggregate-stock : tie.Need-slice-aggregate-stock
-slice-aggregate-stock c = search laws
+slice-aggregate-fill : tie.Need-slice-aggregate-fill
+slice-aggregate-fill c = search laws
 
-stock-requires : tie.Need-stock-requires
-stock-requires c κs = search laws
+fill-requires : tie.Need-fill-requires
+fill-requires c κs = search laws
 
 slice-aggregate-placed-by : tie.Need-slice-aggregate-placed-by
 slice-aggregate-placed-by c = search laws
@@ -24,4 +24,4 @@ returns c = search laws
 pub placed-spec : {M : Type 1} → statement M
 placed-spec =
     tie.close
-    (tie.spec slice-aggregate-stock stock-requires slice-aggregate-placed-by placed-by-requires returns)
+    (tie.spec slice-aggregate-fill fill-requires slice-aggregate-placed-by placed-by-requires returns)

@@ -1,9 +1,8 @@
 -- `judging::whole::placed_by` meets its contract. Assumes nothing.
 use borrow.Author.Needs.{needs}
-use Rattle.judging.proofs.VerdictLaws.{place-start, place-steady, place-small, place-count, place-stop, place-found, place-more, place-less, place-over}
+use Rattle.judging.proofs.VerdictLaws.{place-start, place-steady, place-small, place-count, place-stop, place-found, place-more, place-less, place-over, Placing}
 use Prim.Native.Nat.{_-_}
 use lib.ListN.{length}
-use Rattle.judging.proofs.VerdictLaws.{Placing}
 use Rattle.judging.proofs.whole.placed_by.Statement.{statement}
 use Rattle.judging.proofs.whole.placed_by.Tie as tie
 

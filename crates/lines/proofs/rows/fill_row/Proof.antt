@@ -1,10 +1,9 @@
 -- `lines::rows::fill_row` meets its contract. Assumes nothing.
 use borrow.Author.Needs.{needs}
-use Rattle.lines.proofs.FillLaws.{fills-start, fills-over, fills-same, fills-ten, fills-type, fills-room, fills-refused, fills-more}
+use Rattle.lines.proofs.FillLaws.{fills-start, fills-over, fills-same, fills-ten, fills-type, fills-room, fills-refused, fills-more, Fills}
 use Prim.Native.Nat.{_-_}
 use mathlib.Core.Path.{_≡_}
-use Rattle.form.specs.Letters.{rowOf}
-use Rattle.lines.proofs.FillLaws.{Fills}
+use Rattle.layouts.specs.Letters.{rowOf}
 use Rattle.lines.proofs.rows.fill_row.Statement.{statement}
 use Rattle.lines.proofs.rows.fill_row.Tie as tie
 

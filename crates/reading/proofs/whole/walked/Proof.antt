@@ -1,9 +1,8 @@
 -- `reading::whole::walked` meets its contract. Assumes nothing.
 use borrow.Author.Needs.{needs}
-use Rattle.reading.proofs.MarkLaws.{check-start, check-steady, check-count, check-length, check-less, check-over, check-marked, check-tells, check-stop, check-found, check-more}
+use Rattle.reading.proofs.MarkLaws.{check-start, check-steady, check-count, check-length, check-less, check-over, check-marked, check-tells, check-stop, check-found, check-more, Checking}
 use Prim.Native.Nat.{_-_}
 use lib.ListN.{length}
-use Rattle.reading.proofs.MarkLaws.{Checking}
 use Rattle.reading.proofs.whole.walked.Statement.{statement}
 use Rattle.reading.proofs.whole.walked.Tie as tie
 

@@ -1,8 +1,7 @@
 -- `writing::names::named_from` meets its contract. Assumes nothing.
 use Prim.Native.Nat.{_-_}
-use Rattle.writing.proofs.NameLaws.{Seeking}
+use Rattle.writing.proofs.NameLaws.{Seeking, seek-start, seek-over, seek-found, seek-more}
 use borrow.Author.Needs.{needs}
-use Rattle.writing.proofs.NameLaws.{seek-start, seek-over, seek-found, seek-more}
 use Rattle.writing.proofs.names.named_from.Statement.{statement}
 use Rattle.writing.proofs.names.named_from.Tie as tie
 

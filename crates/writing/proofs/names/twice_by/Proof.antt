@@ -1,7 +1,6 @@
 -- `writing::names::twice_by` meets its contract. Assumes nothing.
 use borrow.Author.Needs.{needs}
-use Rattle.writing.proofs.MarkLaws.{pair-start, pair-told, pair-length, pair-marked, pair-over, pair-within, pair-found, pair-more}
-use Rattle.writing.proofs.MarkLaws.{Pairing}
+use Rattle.writing.proofs.MarkLaws.{pair-start, pair-told, pair-length, pair-marked, pair-over, pair-within, pair-found, pair-more, Pairing}
 use Rattle.writing.proofs.names.twice_by.Statement.{statement}
 use Rattle.writing.proofs.names.twice_by.Tie as tie
 

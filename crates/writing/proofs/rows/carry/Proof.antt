@@ -1,8 +1,7 @@
 -- `writing::rows::carry` meets its contract. Assumes nothing.
 use Prim.Native.Nat.{_-_}
-use Rattle.writing.proofs.RowLaws.{Carrying}
+use Rattle.writing.proofs.RowLaws.{Carrying, carry-start, carry-over, carry-stop, carry-more}
 use borrow.Author.Needs.{needs}
-use Rattle.writing.proofs.RowLaws.{carry-start, carry-over, carry-stop, carry-more}
 use Rattle.writing.proofs.rows.carry.Statement.{statement}
 use Rattle.writing.proofs.rows.carry.Tie as tie
 

@@ -1,8 +1,7 @@
 -- `writing::rows::row_at` meets its contract. Assumes nothing.
 use Prim.Native.Nat.{_*_, _-_}
-use Rattle.writing.proofs.RowLaws.{Copied}
+use Rattle.writing.proofs.RowLaws.{Copied, copy-start, copy-place, copy-more, copy-over, row-place}
 use borrow.Author.Needs.{needs}
-use Rattle.writing.proofs.RowLaws.{copy-start, copy-place, copy-more, copy-over, row-place}
 use Rattle.writing.proofs.rows.row_at.Statement.{statement}
 use Rattle.writing.proofs.rows.row_at.Tie as tie
 

@@ -1,8 +1,7 @@
 -- `writing::texts::put_text` meets its contract. Assumes nothing.
 use Prim.Native.Nat.{_-_}
-use Rattle.writing.proofs.TextLaws.{Writing}
+use Rattle.writing.proofs.TextLaws.{Writing, write-start, write-same, write-over, write-fits, write-room, write-more}
 use borrow.Author.Needs.{needs}
-use Rattle.writing.proofs.TextLaws.{write-start, write-same, write-over, write-fits, write-room, write-more}
 use Rattle.writing.proofs.texts.put_text.Statement.{statement}
 use Rattle.writing.proofs.texts.put_text.Tie as tie
 

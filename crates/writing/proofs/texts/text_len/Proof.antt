@@ -1,8 +1,7 @@
 -- `writing::texts::text_len` meets its contract. Assumes nothing.
 use Prim.Native.Nat.{_-_}
-use Rattle.writing.proofs.TextLaws.{Counting}
+use Rattle.writing.proofs.TextLaws.{Counting, count-start, count-small, count-over, count-fits, count-far, count-more}
 use borrow.Author.Needs.{needs}
-use Rattle.writing.proofs.TextLaws.{count-start, count-small, count-over, count-fits, count-far, count-more}
 use Rattle.writing.proofs.texts.text_len.Statement.{statement}
 use Rattle.writing.proofs.texts.text_len.Tie as tie
 

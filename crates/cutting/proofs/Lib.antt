@@ -1,0 +1,7 @@
+pub mod FieldLaws
+pub mod Bounds
+pub mod Walk
+pub mod Counting
+pub mod StartLaws
+pub mod LookSpelling
+pub mod FieldSpelling

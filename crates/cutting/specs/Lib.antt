@@ -1,0 +1,5 @@
+pub mod Looks
+pub mod FirstField
+pub mod Fields
+pub mod FieldRules
+pub mod Starts

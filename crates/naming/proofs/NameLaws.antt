@@ -1,0 +1,183 @@
+-- Laws of components by name, as the code leaves them.
+use Prim.Native.Nat.{ℕ, _-_, _≤_, _<_}
+use mathlib.Core.Path.{_≡_, refl, sym, ap, _∙_}
+use mathlib.Core.List.{List}
+use mathlib.Core.Bool.{Bool, true, false, _&&_, _||_, true≢false, false≢true}
+use mir.Syntax.{w64}
+use mir.Val.{SFits}
+use mir.ValLaws.{toZ-ofZ}
+use borrow.Author.Tests.{lt-ltb, le-ltb}
+use lib.Dec.{ltb}
+use lib.IntN.{ℤ, pos}
+use lib.ListN.{length}
+use Rattle.loops.specs.Loops.{eqZ}
+use Rattle.loops.proofs.LoopLaws.{same-as}
+use Rattle.walking.specs.declared.Found.{Found}
+use Rattle.walking.specs.declared.Found.the-variants.{Row, Nothing, Refused}
+use Rattle.walking.specs.declared.Walk.{Walk}
+use Rattle.walking.specs.declared.Turn.{Turn}
+use Rattle.walking.specs.Judging.{columnAt}
+use Rattle.records.specs.Answers.{limit}
+use Rattle.walking.specs.Walks.{begun, turnOf, stopsBy, isRow, Steady, Trace, traceBy, traceAt}
+use Rattle.spans.specs.Texts.{sameTexts}
+use Rattle.naming.specs.Names.{sameNames, leadsComponent, isNamed, namesSame, usedIn, isUsed, repeatsAt, repeatIn, repeatOf}
+use Rattle.walking.proofs.LineLaws.{column}
+use Rattle.walking.proofs.WalkLaws.{Going, going-start, going-trace, going-less, going-more, going-end}
+
+-- a name is two texts
+module _ (f : List ℕ) (x : List ℤ) (h : List ℕ) (y : List ℤ) (p : Bool)
+    (f1 : SFits w64 (columnAt x 1)) (f2 : SFits w64 (columnAt x 2)) (g1 : SFits w64 (columnAt y 1)) (g2 : SFits w64 (columnAt y 2))
+    (e : p ≡ sameTexts f (column x 1) (column x 2) h (column y 1) (column y 2)) where
+  first-text : p ≡ sameTexts f (columnAt x 1) (columnAt x 2) h (columnAt y 1) (columnAt y 2)
+  first-text = e ∙ rw (toZ-ofZ w64 (columnAt x 1) f1, toZ-ofZ w64 (columnAt x 2) f2, toZ-ofZ w64 (columnAt y 1) g1, toZ-ofZ w64 (columnAt y 2) g2)
+
+  pub names-not : p ≡ false → false ≡ sameNames f x h y
+  unfolding sameNames
+  names-not k = rw (sym first-text ∙ k)
+
+  pub names-by : (q : Bool) → p ≡ true → SFits w64 (columnAt x 3) → SFits w64 (columnAt x 4) → SFits w64 (columnAt y 3) → SFits w64 (columnAt y 4)
+      → q ≡ sameTexts f (column x 3) (column x 4) h (column y 3) (column y 4) → q ≡ sameNames f x h y
+  unfolding sameNames
+  names-by q k f3 f4 g3 g4 i =
+      rw (sym first-text ∙ k) (i ∙ rw (toZ-ofZ w64 (columnAt x 3) f3, toZ-ofZ w64 (columnAt x 4) f4, toZ-ofZ w64 (columnAt y 3) g3, toZ-ofZ w64 (columnAt y 4) g4))
+
+pub leads-is : (x : List ℤ) (p q : Bool) → SFits w64 (columnAt x 0) → p ≡ eqZ (column x 0) (pos 141) → q ≡ eqZ (column x 0) (pos 151) → (p || q) ≡ leadsComponent x
+leads-is x p q f e i = rw (same-as (columnAt x 0) (pos 141) p f e, same-as (columnAt x 0) (pos 151) q f i)
+
+pub and-assoc : (a b c : Bool) → ((a && b) && c) ≡ (a && (b && c))
+and-assoc true b c = refl
+and-assoc false b c = refl
+
+-- two tests, the second only where the first passes
+module _ (x a : Bool) (e : x ≡ a) (b : Bool) where
+  pub both-fail : x ≡ false → false ≡ (a && b)
+  both-fail h = rw (sym e ∙ h)
+
+  pub both-by : (y : Bool) → x ≡ true → y ≡ b → y ≡ (a && b)
+  both-by y h i = rw (sym e ∙ h) i
+
+-- a line that names the same component, on the way to line n
+module _ (file : List ℕ) (n l : ℕ) (x row : List ℤ) (t : Trace) where
+  pub used-on : (f : Found) → stopsBy f ≡ false → ltb l n ≡ true → (isRow f && (leadsComponent row && sameNames file row file x)) ≡ false
+      → usedIn file n x (traceBy f l row t) ≡ usedIn file n x t
+  unfolding usedIn
+  used-on Row h k g = rw (k, g)
+  used-on Nothing h k g = rw k
+  used-on (Refused m) h k g = absurd (true≢false h)
+
+  used-here : (f : Found) → ltb l n ≡ true → (isRow f && (leadsComponent row && sameNames file row file x)) ≡ true → usedIn file n x (traceBy f l row t) ≡ true
+  unfolding usedIn
+  used-here Row k g = rw (k, g)
+  used-here Nothing k g = absurd (false≢true g)
+  used-here (Refused m) k g = absurd (false≢true g)
+
+  pub used-late : (f : Found) → ltb l n ≡ false → usedIn file n x (traceBy f l row t) ≡ false
+  unfolding usedIn
+  used-late Row k = rw k
+  used-late Nothing k = rw k
+  used-late (Refused m) k = refl
+
+  used-none : (f : Found) → stopsBy f ≡ true → usedIn file n x (traceBy f l row t) ≡ false
+  unfolding usedIn
+  used-none Row h = absurd (false≢true h)
+  used-none Nothing h = absurd (false≢true h)
+  used-none (Refused m) h = refl
+
+-- what is left of a file tells whether a name is used
+pub record Seeking (file : List ℕ) (n : ℕ) (x : List ℤ) (w : Walk) (at : ℕ) : Type 0 where
+  pub going : Going file w at
+  pub left : usedIn file n x (traceAt file w) ≡ isUsed file n x
+
+pub seek-start : (file : List ℕ) (n : ℕ) (x : List ℤ) (w : Walk) → length file ≤ limit → w ≡ begun → Seeking file n x w 0
+seek-start file n x w h e = record { going = going-start file w h e; left = rw e }
+
+module _ (file : List ℕ) (n : ℕ) (x : List ℤ) (w : Walk) (at : ℕ) (s : Seeking file n x w at) where
+  pub seek-steady : Steady file w
+  seek-steady = s .going .steady
+
+  module _ (h : at < length file) where
+    traced : usedIn file n x (traceBy (turnOf file w .found) (w .line) (turnOf file w .row) (traceAt file (turnOf file w .walk))) ≡ isUsed file n x
+    traced = sym (ap (usedIn file n x) (going-trace file w at (s .going) h (turnOf file w) refl)) ∙ s .left
+
+    pub seek-late : n ≤ w .line → false ≡ isUsed file n x
+    seek-late k = sym (used-late file n (w .line) x (turnOf file w .row) (traceAt file (turnOf file w .walk)) (turnOf file w .found) (le-ltb (w .line) n k)) ∙ traced
+
+    module _ (k : w .line < n) (t : Turn) (e : t ≡ turnOf file w) (y : Bool) (i : y ≡ stopsBy (t .found)) where
+      pub seek-stop : y ≡ true → false ≡ isUsed file n x
+      seek-stop j = sym (used-none file n (w .line) x (turnOf file w .row) (traceAt file (turnOf file w .walk)) (turnOf file w .found) (ap (λ (z : Turn). stopsBy (z .found)) (sym e) ∙ sym i ∙ j)) ∙ traced
+
+      module _ (z : Bool) (d : z ≡ namesSame file t x) where
+        named : z ≡ (isRow (turnOf file w .found) && (leadsComponent (turnOf file w .row) && sameNames file (turnOf file w .row) file x))
+        unfolding namesSame isNamed
+        named = d ∙ ap (λ (u : Turn). namesSame file u x) e ∙ and-assoc (isRow (turnOf file w .found)) (leadsComponent (turnOf file w .row)) (sameNames file (turnOf file w .row) file x)
+
+        pub seek-found : z ≡ true → true ≡ isUsed file n x
+        seek-found j = sym (used-here file n (w .line) x (turnOf file w .row) (traceAt file (turnOf file w .walk)) (turnOf file w .found) (lt-ltb (w .line) n k) (sym named ∙ j)) ∙ traced
+
+        pub seek-more : y ≡ false → z ≡ false → Seeking file n x (t .walk) (t .walk .at)
+        seek-more j q = rw e (record {
+          going = going-more file w at (s .going) h (turnOf file w) refl;
+          left =
+              sym (used-on file n (w .line) x (turnOf file w .row) (traceAt file (turnOf file w .walk)) (turnOf file w .found) (ap (λ (u : Turn). stopsBy (u .found)) (sym e) ∙ sym i ∙ j) (lt-ltb (w .line) n k) (sym named ∙ q))
+              ∙ traced;
+        })
+
+  pub seek-less : (t : Turn) → at < length file → t ≡ turnOf file w → length file - t .walk .at < length file - at
+  seek-less t h e = going-less file w at (s .going) h t e
+
+  pub seek-over : length file ≤ at → false ≡ isUsed file n x
+  unfolding usedIn
+  seek-over h = sym (ap (usedIn file n x) (going-end file w at (s .going) h)) ∙ s .left
+
+-- a line that names a component as one before it did
+module _ (file : List ℕ) (l : ℕ) (row : List ℤ) (t : Trace) where
+  repeat-on : (f : Found) → stopsBy f ≡ false → ((isRow f && leadsComponent row) && isUsed file l row) ≡ false
+      → repeatIn file (traceBy f l row t) ≡ repeatIn file t
+  unfolding repeatIn
+  repeat-on Row h g = rw g
+  repeat-on Nothing h g = refl
+  repeat-on (Refused m) h g = absurd (true≢false h)
+
+  repeat-here : (f : Found) → ((isRow f && leadsComponent row) && isUsed file l row) ≡ true → repeatIn file (traceBy f l row t) ≡ l
+  unfolding repeatIn
+  repeat-here Row g = rw g
+  repeat-here Nothing g = absurd (false≢true g)
+  repeat-here (Refused m) g = absurd (false≢true g)
+
+  repeat-none : (f : Found) → stopsBy f ≡ true → repeatIn file (traceBy f l row t) ≡ 0
+  unfolding repeatIn
+  repeat-none Row h = absurd (false≢true h)
+  repeat-none Nothing h = absurd (false≢true h)
+  repeat-none (Refused m) h = refl
+
+-- what is left of a file has the first such line
+pub record Asking (file : List ℕ) (w : Walk) (at : ℕ) : Type 0 where
+  pub going : Going file w at
+  pub left : repeatIn file (traceAt file w) ≡ repeatOf file
+
+pub ask-start : (file : List ℕ) (w : Walk) → length file ≤ limit → w ≡ begun → Asking file w 0
+ask-start file w h e = record { going = going-start file w h e; left = rw e }
+
+module _ (file : List ℕ) (w : Walk) (at : ℕ) (s : Asking file w at) where
+  module _ (h : at < length file) (t : Turn) (e : t ≡ turnOf file w) (y : Bool) (i : y ≡ stopsBy (t .found)) where
+    asked : repeatIn file (traceBy (t .found) (w .line) (t .row) (traceAt file (t .walk))) ≡ repeatOf file
+    asked = sym (ap (repeatIn file) (going-trace file w at (s .going) h t e)) ∙ s .left
+
+    pub ask-stop : y ≡ true → 0 ≡ repeatOf file
+    ask-stop j = sym (repeat-none file (w .line) (t .row) (traceAt file (t .walk)) (t .found) (sym i ∙ j)) ∙ asked
+
+    module _ (z : Bool) (d : z ≡ repeatsAt file (w .line) t) where
+      pub ask-found : z ≡ true → w .line ≡ repeatOf file
+      unfolding repeatsAt isNamed
+      ask-found j = sym (repeat-here file (w .line) (t .row) (traceAt file (t .walk)) (t .found) (sym d ∙ j)) ∙ asked
+
+      pub ask-more : y ≡ false → z ≡ false → Asking file (t .walk) (t .walk .at)
+      unfolding repeatsAt isNamed
+      ask-more j q = record {
+        going = going-more file w at (s .going) h t e;
+        left = sym (repeat-on file (w .line) (t .row) (traceAt file (t .walk)) (t .found) (sym i ∙ j) (sym d ∙ q)) ∙ asked;
+      }
+
+  pub ask-over : length file ≤ at → 0 ≡ repeatOf file
+  unfolding repeatIn
+  ask-over h = sym (ap (repeatIn file) (going-end file w at (s .going) h)) ∙ s .left

@@ -1,0 +1,104 @@
+// Components by name: no two of a library share both geometry and part.
+use lines::WIDTH;
+use loops::same;
+use walking::Turn;
+use walking::steps;
+ghost use mathlib.Core.Path.{_≡_};
+ghost use Prim.Native.Nat.{_≤_};
+ghost use lib.ListN.{length};
+ghost use Rattle.records.specs.Answers.{limit};
+ghost use Rattle.naming.specs.Names.{sameNames, leadsComponent, isNamed, namesSame, isUsed, repeatsAt};
+ghost use Rattle.naming.specs.Marks.{keyOf, markedBy, Telling};
+
+// How many marks of names a walk has at hand, 512 KiB of them.
+pub const MARKS: usize = 131_072;
+
+// Whether two rows, each of its own file, have the same geometry and part, their first two texts.
+pub fn same_names(first: &[u8], x: [i64; WIDTH], second: &[u8], y: [i64; WIDTH]) -> bool
+    ensures { λ r. ⌜ r ≡ sameNames (now (first .entry)) x (now (second .entry)) y ⌝ }
+{
+    if spans::same_texts(first, x[1], x[2], second, y[1], y[2]) {
+        return spans::same_texts(first, x[3], x[4], second, y[3], y[4]);
+    }
+    false
+}
+
+// Whether a row leads ELECTRICAL or MECHANICAL.
+pub fn leads_component(x: [i64; WIDTH]) -> bool
+    ensures { λ r. ⌜ r ≡ leadsComponent x ⌝ }
+{
+    same(x[0], 141) | same(x[0], 151)
+}
+
+// Whether a line names a component.
+fn names_component(t: Turn) -> bool
+    ensures { λ r. ⌜ r ≡ isNamed t ⌝ }
+{
+    let found = t.found;
+    let row = t.row;
+    if steps::is_row(found) {
+        return leads_component(row);
+    }
+    false
+}
+
+// Whether a line names the component that a row names.
+fn names_same(file: &[u8], t: Turn, x: [i64; WIDTH]) -> bool
+    ensures { λ r. ⌜ r ≡ namesSame (now (file .entry)) t x ⌝ }
+{
+    let row = t.row;
+    if names_component(t) {
+        return same_names(file, row, file, x);
+    }
+    false
+}
+
+// Whether a line before line n names the component that a row names.
+fn is_used(file: &[u8], n: u64, x: [i64; WIDTH]) -> bool
+    requires { ⌜ length (now file) ≤ limit ⌝ }
+    ensures { λ r. ⌜ r ≡ isUsed (now (file .entry)) n x ⌝ }
+{
+    let mut w = steps::begin();
+    let mut at = 0;
+    while at < file.len() {
+        let l = w.line;
+        if n <= l {
+            return false;
+        }
+        let t = steps::turn(file, w);
+        let found = t.found;
+        if steps::stops(found) {
+            return false;
+        }
+        if names_same(file, t, x) {
+            return true;
+        }
+        w = t.walk;
+        at = w.at;
+    }
+    false
+}
+
+// The hash of a row's geometry and part.
+pub fn key(file: &[u8], x: [i64; WIDTH]) -> u64
+    ensures { λ r. ⌜ r ≡ keyOf (now (file .entry)) x ⌝ }
+{
+    let h = spans::hash_text(0, file, x[1], x[2]);
+    spans::hash_text(h, file, x[3], x[4])
+}
+
+// Whether line n names a component as a line before it did; a name without a mark came on none, and gets its mark here.
+pub fn repeats(file: &[u8], n: u64, t: Turn, marks: &mut [u32]) -> bool
+    requires { ⌜ (length (now file) ≤ limit) × Telling (now file) n (now marks) ⌝ }
+    ensures { λ r. ⌜ r ≡ repeatsAt (now (file .entry)) n t ⌝ }
+    ensures { λ _. ⌜ now (marks .exit) ≡ markedBy (now (file .entry)) (now (marks .entry)) t ⌝ }
+{
+    let row = t.row;
+    if !names_component(t) {
+        return false;
+    }
+    if slots::mark(marks, key(file, row)) {
+        return is_used(file, n, row);
+    }
+    false
+}

@@ -1,0 +1,24 @@
+-- `states::advance` meets its contract. Assumes nothing.
+use borrow.Author.Needs.{needs}
+use Rattle.states.proofs.StateLaws.{step-moves, step-misplaced}
+use Rattle.states.proofs.advance.Statement.{statement}
+use Rattle.states.proofs.advance.Tie as tie
+
+ruleset laws = (step-moves, step-misplaced, needs)
+
+may-stand-requires : tie.Need-may-stand-requires
+may-stand-requires c κs = search laws
+
+moved-requires : tie.Need-moved-requires
+moved-requires c κs = search laws
+
+returns : tie.Need-returns
+returns c = search laws
+
+returns-2 : tie.Need-returns-2
+returns-2 c = search laws
+
+pub advance-spec : {M : Type 1} → statement M
+advance-spec =
+    tie.close
+    (tie.spec may-stand-requires moved-requires returns returns-2)

@@ -1,0 +1,66 @@
+-- A library's components in slots, by which a placement's entry is found; no verdict depends on them.
+use Prim.Native.Nat.{ℕ, _+_, _*_, _-_, _/_, _%_}
+use mathlib.Core.List.{List}
+use mathlib.Core.Bool.{Bool, true, false, cond, _&&_}
+use lib.Dec.{ltb, eqb}
+use lib.IntN.{ℤ, pos, natAbs}
+use Rattle.loops.specs.Loops.{eqZ}
+use Rattle.slots.specs.Slots as slot
+use Rattle.walking.specs.declared.Turn.{Turn}
+use Rattle.walking.specs.Judging.{columnAt}
+use Rattle.walking.specs.Walks.{isRow, Trace, done, stop, skip, row, traceOf}
+use Rattle.naming.specs.Marks.{keyOf}
+use Rattle.spans.specs.Texts.{sameTexts}
+
+-- the kind of an electrical or a mechanical component, and its code
+abbrev pub kindFor : Bool → ℤ
+kindFor true = pos 151
+kindFor false = pos 141
+
+abbrev pub codeFor : Bool → ℕ
+codeFor true = 2
+codeFor false = 1
+
+-- a geometry at a of l bytes and a part at b of m bytes in one number, if they are small and near each other; else 0
+unfoldable pub packOf : Bool → ℕ → ℕ → ℕ → ℕ → ℕ
+packOf mechanical a l b m =
+    cond (ltb 16_777_216 a) 0
+    (cond (ltb 255 l) 0
+    (cond (ltb 255 m) 0
+    (cond (ltb b (a + l)) 0
+    (cond (ltb 255 (b - (a + l))) 0
+    ((((a * 256 + l) * 256 + (b - (a + l))) * 256 + m) * 4 + codeFor mechanical)))))
+
+unfoldable pub packedRow : Bool → List ℤ → ℕ
+packedRow mechanical y = packOf mechanical (natAbs (columnAt y 1)) (natAbs (columnAt y 2)) (natAbs (columnAt y 3)) (natAbs (columnAt y 4))
+
+-- the names in such a number are those of a board's row x
+unfoldable pub isNamed : List ℕ → ℕ → List ℕ → List ℤ → Bool
+isNamed library e board x =
+    let a = e / 67_108_864 in
+    let l = e / 262_144 % 256 in
+    sameTexts library (pos a) (pos l) board (columnAt x 1) (columnAt x 2)
+    && sameTexts library (pos (a + l + e / 1_024 % 256)) (pos (e / 4 % 256)) board (columnAt x 3) (columnAt x 4)
+
+-- and its kind is wanted
+unfoldable pub holdsName : List ℕ → Bool → List ℕ → List ℤ → ℕ → Bool
+holdsName library mechanical board x e = eqb (e % 4) (codeFor mechanical) && isNamed library e board x
+
+-- slots with the names of a row, if it is a component's
+unfoldable pub stockedRow : List ℕ → List ℕ → List ℤ → List ℕ
+stockedRow library places y =
+    cond (eqZ (columnAt y 0) (pos 141)) (slot.placed places (keyOf library y) (packedRow false y))
+    (cond (eqZ (columnAt y 0) (pos 151)) (slot.placed places (keyOf library y) (packedRow true y)) places)
+
+unfoldable pub stockedBy : List ℕ → List ℕ → Turn → List ℕ
+stockedBy library places t = cond (isRow (t .found)) (stockedRow library places (t .row)) places
+
+-- with those of all lines
+unfoldable pub stockIn : List ℕ → List ℕ → Trace → List ℕ
+stockIn library places (done w) = places
+stockIn library places (stop n l) = places
+stockIn library places (skip l t) = stockIn library places t
+stockIn library places (row l y t) = stockIn library (stockedRow library places y) t
+
+unfoldable pub stockOf : List ℕ → List ℕ → List ℕ
+stockOf library places = stockIn library places (traceOf library)

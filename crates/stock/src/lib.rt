@@ -1,0 +1,153 @@
+// The components of a library in slots, by the hash of their names, so that a placement finds its entry at once.
+use lines::WIDTH;
+use loops::same;
+use naming::key;
+use slots::LOOKS;
+use walking::Turn;
+use walking::steps;
+ghost use mathlib.Core.Path.{_≡_};
+ghost use Prim.Native.Nat.{_≤_, _<_};
+ghost use lib.ListN.{length};
+ghost use Rattle.slots.specs.Looks.{looks};
+ghost use Rattle.slots.specs.Slots.{holds};
+ghost use Rattle.records.specs.Answers.{limit};
+ghost use Rattle.naming.specs.Marks.{keyOf};
+ghost use Rattle.stock.specs.Stock.{codeFor, packOf, packedRow, isNamed, holdsName, stockedRow, stockedBy, stockOf};
+
+// The code of a kind: an electrical or a mechanical component.
+fn code_for(mechanical: bool) -> u64
+    ensures { λ r. ⌜ r ≡ codeFor mechanical ⌝ }
+{
+    if mechanical { 2 } else { 1 }
+}
+
+// A geometry and a part, each by its start and length, as one number with the code of the kind; 0 where they are too large.
+fn pack(mechanical: bool, a: u64, l: u64, b: u64, m: u64) -> u64
+    ensures { λ r. ⌜ r ≡ packOf mechanical a l b m ⌝ }
+{
+    if 16_777_216 < a {
+        return 0;
+    }
+    if 255 < l {
+        return 0;
+    }
+    if 255 < m {
+        return 0;
+    }
+    if b < a + l {
+        return 0;
+    }
+    let gap = b - (a + l);
+    if 255 < gap {
+        return 0;
+    }
+    (((a * 256 + l) * 256 + gap) * 256 + m) * 4 + code_for(mechanical)
+}
+
+// The names of a component's row as one number.
+fn pack_row(mechanical: bool, y: [i64; WIDTH]) -> u64
+    ensures { λ r. ⌜ r ≡ packedRow mechanical y ⌝ }
+{
+    pack(
+        mechanical,
+        measure::magnitude(y[1]),
+        measure::magnitude(y[2]),
+        measure::magnitude(y[3]),
+        measure::magnitude(y[4]),
+    )
+}
+
+// Whether the names in such a number are those of a placement.
+fn is_named(library: &[u8], e: u64, board: &[u8], x: [i64; WIDTH]) -> bool
+    ensures { λ r. ⌜ r ≡ isNamed (now (library .entry)) e (now (board .entry)) x ⌝ }
+{
+    let a = e / 67_108_864;
+    let l = e / 262_144 % 256;
+    let b = a + l + e / 1_024 % 256;
+    let m = e / 4 % 256;
+    if spans::same_texts(library, a as i64, l as i64, board, x[1], x[2]) {
+        return spans::same_texts(library, b as i64, m as i64, board, x[3], x[4]);
+    }
+    false
+}
+
+// Whether such a number is a placement's entry, of this kind.
+fn holds_name(library: &[u8], e: u64, mechanical: bool, board: &[u8], x: [i64; WIDTH]) -> bool
+    ensures { λ r. ⌜ r ≡ holdsName (now (library .entry)) mechanical (now (board .entry)) x e ⌝ }
+{
+    if e % 4 != code_for(mechanical) {
+        return false;
+    }
+    is_named(library, e, board, x)
+}
+
+// Puts a row's names into their slot, if it is a component's.
+fn put_row(library: &[u8], y: [i64; WIDTH], places: &mut [u64])
+    requires { ⌜ looks < length (now places) ⌝ }
+    ensures { λ _. ⌜ now (places .exit) ≡ stockedRow (now (library .entry)) (now (places .entry)) y ⌝ }
+{
+    if same(y[0], 141) {
+        slots::place(places, key(library, y), pack_row(false, y));
+        return;
+    }
+    if same(y[0], 151) {
+        slots::place(places, key(library, y), pack_row(true, y));
+    }
+}
+
+// Puts a line's names into their slot, if it is a component's.
+fn put_turn(library: &[u8], t: Turn, places: &mut [u64])
+    requires { ⌜ looks < length (now places) ⌝ }
+    ensures { λ _. ⌜ now (places .exit) ≡ stockedBy (now (library .entry)) (now (places .entry)) t ⌝ }
+{
+    let found = t.found;
+    let row = t.row;
+    if steps::is_row(found) {
+        put_row(library, row, places);
+    }
+}
+
+// Puts the names of a library's components into their slots.
+pub fn fill(library: &[u8], places: &mut [u64])
+    requires { ⌜ (length (now library) ≤ limit) × (looks < length (now places)) ⌝ }
+    ensures { λ _. ⌜ now (places .exit) ≡ stockOf (now (library .entry)) (now (places .entry)) ⌝ }
+{
+    let mut w = steps::begin();
+    let mut at = 0;
+    while at < library.len() {
+        let t = steps::turn(library, w);
+        let found = t.found;
+        if steps::stops(found) {
+            return;
+        }
+        put_turn(library, t, places);
+        w = t.walk;
+        at = w.at;
+    }
+}
+
+// Whether a slot holds a placement's entry, of this kind.
+pub fn has_place(
+    library: &[u8],
+    places: &[u64],
+    mechanical: bool,
+    board: &[u8],
+    x: [i64; WIDTH],
+) -> bool
+    requires { ⌜ looks < length (now places) ⌝ }
+    ensures { λ r. ⌜ r ≡ holds (holdsName (now (library .entry)) mechanical (now (board .entry)) x) (now (places .entry)) (keyOf (now (board .entry)) x) ⌝ }
+{
+    let from = slots::slot_of(key(board, x), places.len());
+    let mut i = 0;
+    while i < LOOKS {
+        let e = places[from + i];
+        if e == 0 {
+            return false;
+        }
+        if holds_name(library, e, mechanical, board, x) {
+            return true;
+        }
+        i += 1;
+    }
+    false
+}

@@ -1,0 +1,5 @@
+pub mod Rooms
+pub mod LineLaws
+pub mod EveryLine
+pub mod Sections
+pub mod WalkLaws

@@ -1,0 +1,3 @@
+pub mod PaddedLaws
+pub mod NameLaws
+pub mod RowLaws
