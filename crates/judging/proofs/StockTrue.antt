@@ -11,7 +11,6 @@ use lib.ListN.{length, getD, replicate, length-replicate, getD-replicate}
 use Rattle.text.proofs.Lists.{and-left, and-right}
 use Rattle.loops.specs.Loops.{eqZ}
 use Rattle.slots.specs.Looks.{looks}
-use Rattle.slots.specs.Slots as slot
 use Rattle.slots.specs.Slots.{holds}
 use Rattle.slots.proofs.SlotLaws.{placed-length, placed-all, held-sound}
 use Rattle.walking.specs.Judging.{columnAt}
@@ -21,13 +20,21 @@ use Rattle.spans.specs.Texts.{textIs, sameTexts}
 use Rattle.naming.specs.Names.{sameNames}
 use Rattle.judging.specs.Entries.{entryIn, hasEntry}
 use Rattle.judging.specs.Stocked.{Stocked}
-use Rattle.stock.specs.Stock.{kindFor, codeFor, packOf, packedRow, isNamed, holdsName, stockedRow, stockIn, stockOf}
+use Rattle.stock.specs.Stock.{kindFor, codeFor, packOf, packedRow, isNamed, holdsName, tagged, showsBy, showsName, putName, stockedRow, stockIn, stockOf}
 
 -- an empty slot holds no name
 empty-none : (library : List ℕ) (k : Bool) (board : List ℕ) (x : List ℤ) → holdsName library k board x 0 ≡ false
 unfolding holdsName
 empty-none library true board x = refl
 empty-none library false board x = refl
+
+and-none : (a b : Bool) → b ≡ false → (a && b) ≡ false
+and-none true b h = h
+and-none false b h = refl
+
+none-shown : (library : List ℕ) (k : Bool) (board : List ℕ) (x : List ℤ) → showsName library k board x 0 ≡ false
+unfolding showsBy
+none-shown library k board x = and-none (eqb 0 (keyOf board x % 8_192)) (holdsName library k board x 0) (empty-none library k board x)
 
 abbrev namesOf : List ℕ → ℕ → ℕ → ℕ → ℕ → List ℕ → List ℤ → Bool
 namesOf library a l b m board x = sameTexts library (pos a) (pos l) board (columnAt x 1) (columnAt x 2) && sameTexts library (pos b) (pos m) board (columnAt x 3) (columnAt x 4)
@@ -101,17 +108,27 @@ row-true library j k y board x h =
     let p = pack-true library j k (natAbs (columnAt y 1)) (natAbs (columnAt y 2)) (natAbs (columnAt y 3)) (natAbs (columnAt y 4)) board x h in
     (p .kind, p .names)
 
+shown-true : (library : List ℕ) (j k : Bool) (h : ℕ) (y : List ℤ) (board : List ℕ) (x : List ℤ) → showsName library j board x (tagged h (packedRow k y)) ≡ true
+    → (j ≡ k) × (sameNames library y board x ≡ true)
+unfolding showsBy tagged
+shown-true library j k h y board x e =
+    let p : ℕ = packedRow k y in
+    let z : (p * 8_192 + h % 8_192) / 8_192 ≡ p = omega arith in
+    row-true library j k y board x
+    (sym (ap (holdsName library j board x) z) ∙ and-right (eqb ((p * 8_192 + h % 8_192) % 8_192) (keyOf board x % 8_192)) (holdsName library j board x ((p * 8_192 + h % 8_192) / 8_192)) e)
+
 -- a row of the library, in the slots
 module _ (library places : List ℕ) (y : List ℤ) (s : Stocked library places) where
   abbrev Has : ℕ → Type 0
-  Has e = (j : Bool) (board : List ℕ) (x : List ℤ) → holdsName library j board x e ≡ true → hasEntry library (kindFor j) board x ≡ true
+  Has e = (j : Bool) (board : List ℕ) (x : List ℤ) → showsName library j board x e ≡ true → hasEntry library (kindFor j) board x ≡ true
 
   put-true : (k : Bool) → ((board : List ℕ) (x : List ℤ) → sameNames library y board x ≡ true → hasEntry library (kindFor k) board x ≡ true)
-      → Stocked library (slot.placed places (keyOf library y) (packedRow k y))
+      → Stocked library (putName library places k y)
+  unfolding putName
   put-true k g = record {
-    room = rw (placed-length places (keyOf library y) (packedRow k y)) (s .room);
-    has = placed-all Has places (keyOf library y) (packedRow k y) (s .room) (s .has) (λ j board x h.
-        let r = row-true library j k y board x h in
+    room = rw (placed-length places (keyOf library y) (tagged (keyOf library y) (packedRow k y))) (s .room);
+    has = placed-all Has places (keyOf library y) (tagged (keyOf library y) (packedRow k y)) (s .room) (s .has) (λ j board x h.
+        let r = shown-true library j k (keyOf library y) y board x h in
         ap (λ (i : Bool). hasEntry library (kindFor i) board x) (r .0) ∙ g board x (r .1));
   }
 
@@ -121,7 +138,7 @@ module _ (library places : List ℕ) (y : List ℤ) (s : Stocked library places)
   stocked-true g = go (eqZ (columnAt y 0) (pos 141)) (eqZ (columnAt y 0) (pos 151)) refl refl
     where
       go : (a b : Bool) → eqZ (columnAt y 0) (pos 141) ≡ a → eqZ (columnAt y 0) (pos 151) ≡ b
-          → Stocked library (cond a (slot.placed places (keyOf library y) (packedRow false y)) (cond b (slot.placed places (keyOf library y) (packedRow true y)) places))
+          → Stocked library (cond a (putName library places false y) (cond b (putName library places true y) places))
       go true b e i = put-true false (λ board x h. g (pos 141) board x (rw (e, h)))
       go false true e i = put-true true (λ board x h. g (pos 151) board x (rw (i, h)))
       go false false e i = s
@@ -174,7 +191,7 @@ none-held n i = go (ltb i n) refl
 empty-stocked : (library : List ℕ) (n : ℕ) → looks < n → Stocked library (empty n)
 empty-stocked library n h = record {
   room = rw (empty-length n) h;
-  has = λ i k board x e. absurd (false≢true (sym (empty-none library k board x) ∙ sym (ap (holdsName library k board x) (none-held n i)) ∙ e));
+  has = λ i k board x e. absurd (false≢true (sym (none-shown library k board x) ∙ sym (ap (showsName library k board x) (none-held n i)) ∙ e));
 }
 
 pub filled-stocked : (library ys : List ℕ) → ys ≡ stockOf library (empty 65_536) → Stocked library ys
@@ -185,9 +202,9 @@ module _ (library places : List ℕ) (s : Stocked library places) where
   pub stocked-room : looks < length places
   stocked-room = s .room
 
-  module _ (k : Bool) (board : List ℕ) (x : List ℤ) (p : Bool) (e : p ≡ holds (holdsName library k board x) places (keyOf board x)) where
+  module _ (k : Bool) (board : List ℕ) (x : List ℤ) (p : Bool) (e : p ≡ holds (showsName library k board x) places (keyOf board x)) where
     pub stocked-found : p ≡ true → true ≡ hasEntry library (kindFor k) board x
-    stocked-found h = sym (held-sound (hasEntry library (kindFor k) board x ≡ true) (holdsName library k board x) places (keyOf board x) (λ i. s .has i k board x) (sym e ∙ h))
+    stocked-found h = sym (held-sound (hasEntry library (kindFor k) board x ≡ true) (showsName library k board x) places (keyOf board x) (λ i. s .has i k board x) (sym e ∙ h))
 
 pub stocked-slow : (library : List ℕ) (k : Bool) (z : ℤ) (board : List ℕ) (x : List ℤ) (r : Bool) → z ≡ kindFor k → r ≡ hasEntry library z board x → r ≡ hasEntry library (kindFor k) board x
 stocked-slow library k z board x r e i = i ∙ rw e

@@ -6,10 +6,10 @@ use mathlib.Core.Bool.{Bool, true}
 use lib.IntN.{ℤ}
 use lib.ListN.{length, getD}
 use Rattle.slots.specs.Looks.{looks}
-use Rattle.stock.specs.Stock.{kindFor, holdsName}
+use Rattle.stock.specs.Stock.{kindFor, showsName}
 use Rattle.judging.specs.Entries.{hasEntry}
 
 -- what a slot holds, the library has
 pub record Stocked (library places : List ℕ) : Type 0 where
   pub room : looks < length places
-  pub has : (i : ℕ) (mechanical : Bool) (board : List ℕ) (x : List ℤ) → holdsName library mechanical board x (getD places i 0) ≡ true → hasEntry library (kindFor mechanical) board x ≡ true
+  pub has : (i : ℕ) (mechanical : Bool) (board : List ℕ) (x : List ℤ) → showsName library mechanical board x (getD places i 0) ≡ true → hasEntry library (kindFor mechanical) board x ≡ true

@@ -1,5 +1,5 @@
 -- Laws of a library's components in slots, as the code leaves them.
-use Prim.Native.Nat.{ℕ, _+_, _*_, _-_, _/_, _%_, _≤_, _<_}
+use Prim.Native.Nat.{ℕ, _+_, _*_, _-_, _/_, _%_, _^_, _≤_, _<_}
 use mathlib.Core.Path.{_≡_, refl, sym, ap, _∙_}
 use mathlib.Core.List.{List}
 use mathlib.Core.Bool.{Bool, true, false, cond, true≢false, false≢true}
@@ -7,7 +7,8 @@ use native.Mathlib.Omega.{arith}
 use mir.Syntax.{w64}
 use mir.Val.{Fits, SFits, toZ}
 use mir.ValLaws.{toZ-ofZ, toZ-pos}
-use borrow.Author.Tests.{lt-ltb, le-ltb, eq-eqb, ne-eqb}
+use borrow.Author.Tests.{lt-ltb, le-ltb, ltb-false, eq-eqb, ne-eqb}
+use lib.Dec.{ltb}
 use lib.IntN.{ℤ, pos, natAbs}
 use lib.ListN.{length, getD}
 use Rattle.loops.specs.Loops.{eqZ}
@@ -27,7 +28,7 @@ use Rattle.walking.specs.Walks.{begun, turnOf, stopsBy, isRow, Steady, Trace, t
 use Rattle.naming.specs.Marks.{keyOf}
 use Rattle.walking.proofs.WalkLaws.{Going, going-start, going-trace, going-less, going-more, going-end}
 use Rattle.spans.specs.Texts.{sameTexts}
-use Rattle.stock.specs.Stock.{kindFor, codeFor, packOf, packedRow, isNamed, holdsName, stockedRow, stockedBy, stockIn, stockOf}
+use Rattle.stock.specs.Stock.{kindFor, codeFor, packOf, packedRow, isNamed, holdsName, tagged, showsBy, showsName, putName, stockedRow, stockedBy, stockIn, stockOf}
 use Rattle.walking.proofs.LineLaws.{column}
 
 pub kind-mechanical : (b : Bool) → b ≡ true → pos 151 ≡ kindFor b
@@ -107,22 +108,66 @@ module _ (library : List ℕ) (k : Bool) (board : List ℕ) (x : List ℤ) (e c 
   unfolding holdsName
   same-kind r h j = rw (sym i, eq-eqb (e % 4) c h) j
 
+-- a packed number leaves room for a tag
+pub pack-small : (k : Bool) (y : List ℤ) (r : ℕ) → r ≡ packedRow k y → r < 2 ^ 51
+unfolding packedRow packOf
+pack-small k y r e =
+    rw e
+    (go (natAbs (columnAt y 1)) (natAbs (columnAt y 2)) (natAbs (columnAt y 3)) (natAbs (columnAt y 4)) (ltb 16_777_216 (natAbs (columnAt y 1))) (ltb 255 (natAbs (columnAt y 2)))
+    (ltb 255 (natAbs (columnAt y 4))) (ltb (natAbs (columnAt y 3)) (natAbs (columnAt y 1) + natAbs (columnAt y 2))) (ltb 255 (natAbs (columnAt y 3) - (natAbs (columnAt y 1) + natAbs (columnAt y 2))))
+    refl refl refl refl)
+  where
+    go : (a l b m : ℕ) (c1 c2 c3 c4 c5 : Bool) → ltb 16_777_216 a ≡ c1 → ltb 255 l ≡ c2 → ltb 255 m ≡ c3 → ltb 255 (b - (a + l)) ≡ c5
+        → cond c1 0 (cond c2 0 (cond c3 0 (cond c4 0 (cond c5 0 ((((a * 256 + l) * 256 + (b - (a + l))) * 256 + m) * 4 + codeFor k))))) < 2 ^ 51
+    go a l b m true c2 c3 c4 c5 e1 e2 e3 e5 = omega arith
+    go a l b m false true c3 c4 c5 e1 e2 e3 e5 = omega arith
+    go a l b m false false true c4 c5 e1 e2 e3 e5 = omega arith
+    go a l b m false false false true c5 e1 e2 e3 e5 = omega arith
+    go a l b m false false false false true e1 e2 e3 e5 = omega arith
+    go a l b m false false false false false e1 e2 e3 e5 =
+        omega (arith, code-small k (codeFor k) refl, ltb-false 16_777_216 a e1, ltb-false 255 l e2, ltb-false 255 m e3, ltb-false 255 (b - (a + l)) e5)
+
+pub tag-fits : (h e : ℕ) → e < 2 ^ 51 → Fits w64 (e * 8_192 + h % 8_192)
+tag-fits h e l = omega arith
+
+pub tag-part-fits : (e : ℕ) → e < 2 ^ 51 → Fits w64 (e * 8_192)
+tag-part-fits e l = omega arith
+
+pub tag-is : (h e : ℕ) → e * 8_192 + h % 8_192 ≡ tagged h e
+unfolding tagged
+tag-is h e = refl
+
+-- a tag that differs, or agrees
+module _ (library : List ℕ) (h e : ℕ) (k : Bool) (board : List ℕ) (x : List ℤ) where
+  pub other-tag : (e % 8_192 ≡ h % 8_192 → ⊥) → false ≡ showsBy library h k board x e
+  unfolding showsBy
+  other-tag n = rw (ne-eqb (e % 8_192) (h % 8_192) n)
+
+  pub same-tag : (r : Bool) → e % 8_192 ≡ h % 8_192 → r ≡ holdsName library k board x (e / 8_192) → r ≡ showsBy library h k board x e
+  unfolding showsBy
+  same-tag r n i = rw (eq-eqb (e % 8_192) (h % 8_192) n) i
+
 -- names into their slot
+pub name-put : (library places : List ℕ) (k : Bool) (y : List ℤ) (h p m : ℕ) (ys : List ℕ) → h ≡ keyOf library y → p ≡ packedRow k y → m ≡ tagged h p → ys ≡ slot.placed places h m
+    → ys ≡ putName library places k y
+unfolding putName
+name-put library places k y h p m ys e i j q = q ∙ rw (j, i, e)
+
 module _ (library places : List ℕ) (y : List ℤ) (f : SFits w64 (columnAt y 0)) (p : Bool) (e : p ≡ eqZ (column y 0) (pos 141)) where
   electrical : p ≡ eqZ (columnAt y 0) (pos 141)
   electrical = same-as (columnAt y 0) (pos 141) p f e
 
-  pub row-electrical : (h m : ℕ) (ys : List ℕ) → p ≡ true → h ≡ keyOf library y → m ≡ packedRow false y → ys ≡ slot.placed places h m → ys ≡ stockedRow library places y
+  pub row-electrical : (ys : List ℕ) → p ≡ true → ys ≡ putName library places false y → ys ≡ stockedRow library places y
   unfolding stockedRow
-  row-electrical h m ys t i j k = rw (sym electrical ∙ t) (k ∙ rw (i, j))
+  row-electrical ys t k = rw (sym electrical ∙ t) k
 
   module _ (t : p ≡ false) (q : Bool) (d : q ≡ eqZ (column y 0) (pos 151)) where
     mechanical : q ≡ eqZ (columnAt y 0) (pos 151)
     mechanical = same-as (columnAt y 0) (pos 151) q f d
 
-    pub row-mechanical : (h m : ℕ) (ys : List ℕ) → q ≡ true → h ≡ keyOf library y → m ≡ packedRow true y → ys ≡ slot.placed places h m → ys ≡ stockedRow library places y
+    pub row-mechanical : (ys : List ℕ) → q ≡ true → ys ≡ putName library places true y → ys ≡ stockedRow library places y
     unfolding stockedRow
-    row-mechanical h m ys u i j k = rw (sym electrical ∙ t, sym mechanical ∙ u) (k ∙ rw (i, j))
+    row-mechanical ys u k = rw (sym electrical ∙ t, sym mechanical ∙ u) k
 
     pub row-other : q ≡ false → places ≡ stockedRow library places y
     unfolding stockedRow
@@ -131,15 +176,20 @@ module _ (library places : List ℕ) (y : List ℤ) (f : SFits w64 (columnAt y 0
 pub placed-same-length : (places ys : List ℕ) (h m : ℕ) → ys ≡ slot.placed places h m → length ys ≡ length places
 placed-same-length places ys h m e = ap length e ∙ placed-length places h m
 
+name-length : (library places : List ℕ) (k : Bool) (y : List ℤ) → length (putName library places k y) ≡ length places
+unfolding putName
+name-length library places k y = placed-length places (keyOf library y) (tagged (keyOf library y) (packedRow k y))
+
+pub name-same-length : (library places : List ℕ) (k : Bool) (y : List ℤ) (ys : List ℕ) → ys ≡ putName library places k y → length ys ≡ length places
+name-same-length library places k y ys e = ap length e ∙ name-length library places k y
+
 stocked-length : (library places : List ℕ) (y : List ℤ) → length (stockedRow library places y) ≡ length places
 unfolding stockedRow
 stocked-length library places y = go (eqZ (columnAt y 0) (pos 141)) (eqZ (columnAt y 0) (pos 151))
   where
-    go : (a b : Bool)
-        → length (cond a (slot.placed places (keyOf library y) (packedRow false y)) (cond b (slot.placed places (keyOf library y) (packedRow true y)) places))
-        ≡ length places
-    go true b = placed-length places (keyOf library y) (packedRow false y)
-    go false true = placed-length places (keyOf library y) (packedRow true y)
+    go : (a b : Bool) → length (cond a (putName library places false y) (cond b (putName library places true y) places)) ≡ length places
+    go true b = name-length library places false y
+    go false true = name-length library places true y
     go false false = refl
 
 pub row-same-length : (library places ys : List ℕ) (y : List ℤ) → ys ≡ stockedRow library places y → length ys ≡ length places
@@ -224,41 +274,47 @@ module _ (library places₀ places : List ℕ) (w : Walk) (at : ℕ) (s : Stocki
     }
 
 -- a look for a placement
-pub record Looking (library places : List ℕ) (k : Bool) (board : List ℕ) (x : List ℤ) (from i : ℕ) : Type 0 where
-  pub left : lookFrom false (looks - i) (holdsName library k board x) places (from + i) ≡ holds (holdsName library k board x) places (keyOf board x)
+pub record Looking (library places : List ℕ) (k : Bool) (board : List ℕ) (x : List ℤ) (h from i : ℕ) : Type 0 where
+  pub key : h ≡ keyOf board x
+  pub left : lookFrom false (looks - i) (showsName library k board x) places (from + i) ≡ holds (showsName library k board x) places (keyOf board x)
   pub far : i ≤ looks
   pub room : from + looks ≤ length places
 
 pub look-start : (library places : List ℕ) (k : Bool) (board : List ℕ) (x : List ℤ) (h from : ℕ) → looks < length places → h ≡ keyOf board x → from ≡ slotOf h (length places)
-    → Looking library places k board x from 0
+    → Looking library places k board x h from 0
 unfolding holds
 look-start library places k board x h from l e i =
     let z : from + 0 ≡ from = omega arith in
     let j : from ≡ slotOf (keyOf board x) (length places) = i ∙ ap (λ (g : ℕ). slotOf g (length places)) e in
     record {
-      left = ap (lookFrom false looks (holdsName library k board x) places) (z ∙ j);
+      key = e;
+      left = ap (lookFrom false looks (showsName library k board x) places) (z ∙ j);
       far = omega arith;
       room = rw j (slot-room (keyOf board x) (length places) l);
     }
 
-module _ (library places : List ℕ) (k : Bool) (board : List ℕ) (x : List ℤ) (from i : ℕ) (s : Looking library places k board x from i) where
-  pub look-none : looks ≤ i → false ≡ holds (holdsName library k board x) places (keyOf board x)
-  look-none h = sym (look-over false (holdsName library k board x) places from i h) ∙ s .left
+module _ (library places : List ℕ) (k : Bool) (board : List ℕ) (x : List ℤ) (h from i : ℕ) (s : Looking library places k board x h from i) where
+  pub look-none : looks ≤ i → false ≡ holds (showsName library k board x) places (keyOf board x)
+  look-none l = sym (look-over false (showsName library k board x) places from i l) ∙ s .left
 
-  module _ (h : i < looks) where
+  module _ (l : i < looks) where
     pub look-within : from + i < length places
     look-within = let r = s .room in omega arith
 
-    pub look-stop : getD places (from + i) 0 ≡ 0 → false ≡ holds (holdsName library k board x) places (keyOf board x)
-    look-stop e = sym (look-empty false (holdsName library k board x) places from i h e) ∙ s .left
+    pub look-stop : getD places (from + i) 0 ≡ 0 → false ≡ holds (showsName library k board x) places (keyOf board x)
+    look-stop e = sym (look-empty false (showsName library k board x) places from i l e) ∙ s .left
 
-    module _ (n : getD places (from + i) 0 ≡ 0 → ⊥) (b : Bool) (e : b ≡ holdsName library k board x (getD places (from + i) 0)) where
-      pub look-found : b ≡ true → true ≡ holds (holdsName library k board x) places (keyOf board x)
-      look-found j = sym (look-hit false (holdsName library k board x) places from i h n (sym e ∙ j)) ∙ s .left
+    module _ (n : getD places (from + i) 0 ≡ 0 → ⊥) (b : Bool) (e : b ≡ showsBy library h k board x (getD places (from + i) 0)) where
+      shown : showsName library k board x (getD places (from + i) 0) ≡ b
+      shown = ap (λ (g : ℕ). showsBy library g k board x (getD places (from + i) 0)) (sym (s .key)) ∙ sym e
 
-      pub look-on : b ≡ false → Looking library places k board x from (i + 1)
+      pub look-found : b ≡ true → true ≡ holds (showsName library k board x) places (keyOf board x)
+      look-found j = sym (look-hit false (showsName library k board x) places from i l n (shown ∙ j)) ∙ s .left
+
+      pub look-on : b ≡ false → Looking library places k board x h from (i + 1)
       look-on j = record {
-        left = sym (look-more false (holdsName library k board x) places from i h n (sym e ∙ j)) ∙ s .left;
+        key = s .key;
+        left = sym (look-more false (showsName library k board x) places from i l n (shown ∙ j)) ∙ s .left;
         far = omega arith;
         room = s .room;
       }

@@ -46,11 +46,25 @@ isNamed library e board x =
 unfoldable pub holdsName : List ℕ → Bool → List ℕ → List ℤ → ℕ → Bool
 holdsName library mechanical board x e = eqb (e % 4) (codeFor mechanical) && isNamed library e board x
 
+-- such a number with some bits of its name's hash behind it, so that most others are told apart without a look at their names
+unfoldable pub tagged : ℕ → ℕ → ℕ
+tagged h e = e * 8_192 + h % 8_192
+
+unfoldable pub showsBy : List ℕ → ℕ → Bool → List ℕ → List ℤ → ℕ → Bool
+showsBy library h mechanical board x e = eqb (e % 8_192) (h % 8_192) && holdsName library mechanical board x (e / 8_192)
+
+-- a slot's number is the entry of a board's row x, of this kind
+abbrev pub showsName : List ℕ → Bool → List ℕ → List ℤ → ℕ → Bool
+showsName library mechanical board x e = showsBy library (keyOf board x) mechanical board x e
+
+-- a row's names under their hash
+unfoldable pub putName : List ℕ → List ℕ → Bool → List ℤ → List ℕ
+putName library places mechanical y = slot.placed places (keyOf library y) (tagged (keyOf library y) (packedRow mechanical y))
+
 -- slots with the names of a row, if it is a component's
 unfoldable pub stockedRow : List ℕ → List ℕ → List ℤ → List ℕ
 stockedRow library places y =
-    cond (eqZ (columnAt y 0) (pos 141)) (slot.placed places (keyOf library y) (packedRow false y))
-    (cond (eqZ (columnAt y 0) (pos 151)) (slot.placed places (keyOf library y) (packedRow true y)) places)
+    cond (eqZ (columnAt y 0) (pos 141)) (putName library places false y) (cond (eqZ (columnAt y 0) (pos 151)) (putName library places true y) places)
 
 unfoldable pub stockedBy : List ℕ → List ℕ → Turn → List ℕ
 stockedBy library places t = cond (isRow (t .found)) (stockedRow library places (t .row)) places

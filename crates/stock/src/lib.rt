@@ -6,13 +6,13 @@ use slots::LOOKS;
 use walking::Turn;
 use walking::steps;
 ghost use mathlib.Core.Path.{_≡_};
-ghost use Prim.Native.Nat.{_≤_, _<_};
+ghost use Prim.Native.Nat.{_^_, _≤_, _<_};
 ghost use lib.ListN.{length};
 ghost use Rattle.slots.specs.Looks.{looks};
 ghost use Rattle.slots.specs.Slots.{holds};
 ghost use Rattle.records.specs.Answers.{limit};
 ghost use Rattle.naming.specs.Marks.{keyOf};
-ghost use Rattle.stock.specs.Stock.{codeFor, packOf, packedRow, isNamed, holdsName, stockedRow, stockedBy, stockOf};
+ghost use Rattle.stock.specs.Stock.{codeFor, packOf, packedRow, isNamed, holdsName, tagged, showsBy, showsName, putName, stockedRow, stockedBy, stockOf};
 
 // The code of a kind: an electrical or a mechanical component.
 fn code_for(mechanical: bool) -> u64
@@ -81,17 +81,52 @@ fn holds_name(library: &[u8], e: u64, mechanical: bool, board: &[u8], x: [i64; W
     is_named(library, e, board, x)
 }
 
+// Such a number with some bits of its name's hash behind it, so that most others are told apart without a look at their names.
+fn tagged(h: u64, e: u64) -> u64
+    requires { ⌜ e < 2 ^ 51 ⌝ }
+    ensures { λ r. ⌜ r ≡ tagged h e ⌝ }
+{
+    e * 8_192 + h % 8_192
+}
+
+// Whether a slot's number is a placement's entry, of this kind; h is the hash of the placement's name.
+fn shows_name(
+    library: &[u8],
+    h: u64,
+    e: u64,
+    mechanical: bool,
+    board: &[u8],
+    x: [i64; WIDTH],
+) -> bool
+    ensures { λ r. ⌜ r ≡ showsBy (now (library .entry)) h mechanical (now (board .entry)) x e ⌝ }
+{
+    if e % 8_192 != h % 8_192 {
+        return false;
+    }
+    holds_name(library, e / 8_192, mechanical, board, x)
+}
+
+// Puts a row's names into their slot.
+fn put_name(library: &[u8], mechanical: bool, y: [i64; WIDTH], places: &mut [u64])
+    requires { ⌜ looks < length (now places) ⌝ }
+    ensures { λ _. ⌜ now (places .exit) ≡ putName (now (library .entry)) (now (places .entry)) mechanical y ⌝ }
+{
+    let h = key(library, y);
+    let e = pack_row(mechanical, y);
+    slots::place(places, h, tagged(h, e));
+}
+
 // Puts a row's names into their slot, if it is a component's.
 fn put_row(library: &[u8], y: [i64; WIDTH], places: &mut [u64])
     requires { ⌜ looks < length (now places) ⌝ }
     ensures { λ _. ⌜ now (places .exit) ≡ stockedRow (now (library .entry)) (now (places .entry)) y ⌝ }
 {
     if same(y[0], 141) {
-        slots::place(places, key(library, y), pack_row(false, y));
+        put_name(library, false, y, places);
         return;
     }
     if same(y[0], 151) {
-        slots::place(places, key(library, y), pack_row(true, y));
+        put_name(library, true, y, places);
     }
 }
 
@@ -135,16 +170,17 @@ pub fn has_place(
     x: [i64; WIDTH],
 ) -> bool
     requires { ⌜ looks < length (now places) ⌝ }
-    ensures { λ r. ⌜ r ≡ holds (holdsName (now (library .entry)) mechanical (now (board .entry)) x) (now (places .entry)) (keyOf (now (board .entry)) x) ⌝ }
+    ensures { λ r. ⌜ r ≡ holds (showsName (now (library .entry)) mechanical (now (board .entry)) x) (now (places .entry)) (keyOf (now (board .entry)) x) ⌝ }
 {
-    let from = slots::slot_of(key(board, x), places.len());
+    let h = key(board, x);
+    let from = slots::slot_of(h, places.len());
     let mut i = 0;
     while i < LOOKS {
         let e = places[from + i];
         if e == 0 {
             return false;
         }
-        if holds_name(library, e, mechanical, board, x) {
+        if shows_name(library, h, e, mechanical, board, x) {
             return true;
         }
         i += 1;

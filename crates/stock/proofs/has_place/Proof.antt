@@ -1,16 +1,17 @@
 -- `stock::has_place` meets its contract. Assumes nothing.
 use borrow.Author.Needs.{needs}
-use Rattle.stock.proofs.StockLaws.{look-start, look-none, look-within, look-stop, look-found, look-on, Looking}
+use Rattle.stock.proofs.StockLaws.{look-start, look-none, look-within, look-stop, look-found, look-on}
 use Prim.Native.Nat.{_-_}
 use Rattle.slots.specs.Looks.{looks}
+use Rattle.stock.proofs.StockLaws.{Looking}
 use Rattle.stock.proofs.has_place.Statement.{statement}
 use Rattle.stock.proofs.has_place.Tie as tie
 
 abbrev Inv-loop : tie.InvT-loop
-Inv-loop library places mechanical board x from i₀ i = Looking library places mechanical board x from i
+Inv-loop library places mechanical board x h from i₀ i = Looking library places mechanical board x h from i
 
 abbrev μ-loop : tie.MeasureT-loop
-μ-loop library places mechanical board x from i₀ i = looks - i
+μ-loop library places mechanical board x h from i₀ i = looks - i
 
 ruleset laws = (look-start, look-none, look-within, look-stop, look-found, look-on, needs)
 
@@ -35,8 +36,8 @@ shared-slice-read-e c = search laws
 returns : tie.Need-returns Inv-loop μ-loop
 returns c = search laws
 
-holds-name-requires : tie.Need-holds-name-requires Inv-loop μ-loop
-holds-name-requires c κs = search laws
+shows-name-requires : tie.Need-shows-name-requires Inv-loop μ-loop
+shows-name-requires c κs = search laws
 
 returns-2 : tie.Need-returns-2 Inv-loop μ-loop
 returns-2 c = search laws
@@ -56,4 +57,4 @@ returns-3 c = search laws
 pub has-place-spec : {M : Type 1} → statement M
 has-place-spec =
     tie.close
-    (tie.spec Inv-loop μ-loop key-requires slot-of-requires loop-holds add-e mul-e shared-slice-read-e returns holds-name-requires returns-2 add-i loop-less loop-again returns-3)
+    (tie.spec Inv-loop μ-loop key-requires slot-of-requires loop-holds add-e mul-e shared-slice-read-e returns shows-name-requires returns-2 add-i loop-less loop-again returns-3)

@@ -1,10 +1,10 @@
 -- `stock::put_row` meets its contract. Assumes nothing.
 use borrow.Author.Needs.{needs}
-use Rattle.stock.proofs.StockLaws.{row-electrical, row-mechanical, row-other, placed-same-length}
+use Rattle.stock.proofs.StockLaws.{row-electrical, row-mechanical, row-other, name-same-length}
 use Rattle.stock.proofs.put_row.Statement.{statement}
 use Rattle.stock.proofs.put_row.Tie as tie
 
-ruleset laws = (row-electrical, row-mechanical, row-other, placed-same-length, needs)
+ruleset laws = (row-electrical, row-mechanical, row-other, name-same-length, needs)
 
 array-copy-out-same : tie.Need-array-copy-out-same
 array-copy-out-same c = search laws
@@ -12,14 +12,8 @@ array-copy-out-same c = search laws
 same-requires : tie.Need-same-requires
 same-requires c κs = search laws
 
-key-requires : tie.Need-key-requires
-key-requires c κs = search laws
-
-pack-row-requires : tie.Need-pack-row-requires
-pack-row-requires c κs = search laws
-
-place-requires : tie.Need-place-requires
-place-requires c κs = search laws
+put-name-requires : tie.Need-put-name-requires
+put-name-requires c κs = search laws
 
 same-length : tie.Need-same-length
 same-length c = search laws
@@ -33,14 +27,8 @@ array-copy-out-same-2 c = search laws
 same-requires-2 : tie.Need-same-requires-2
 same-requires-2 c κs = search laws
 
-key-requires-2 : tie.Need-key-requires-2
-key-requires-2 c κs = search laws
-
-pack-row-requires-2 : tie.Need-pack-row-requires-2
-pack-row-requires-2 c κs = search laws
-
-place-requires-2 : tie.Need-place-requires-2
-place-requires-2 c κs = search laws
+put-name-requires-2 : tie.Need-put-name-requires-2
+put-name-requires-2 c κs = search laws
 
 same-length-2 : tie.Need-same-length-2
 same-length-2 c = search laws
@@ -54,4 +42,4 @@ returns-3 c = search laws
 pub put-row-spec : {M : Type 1} → statement M
 put-row-spec =
     tie.close
-    (tie.spec array-copy-out-same same-requires key-requires pack-row-requires place-requires same-length returns array-copy-out-same-2 same-requires-2 key-requires-2 pack-row-requires-2 place-requires-2 same-length-2 returns-2 returns-3)
+    (tie.spec array-copy-out-same same-requires put-name-requires same-length returns array-copy-out-same-2 same-requires-2 put-name-requires-2 same-length-2 returns-2 returns-3)

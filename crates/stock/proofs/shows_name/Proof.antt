@@ -1,0 +1,21 @@
+-- `stock::shows_name` meets its contract. Assumes nothing.
+use borrow.Author.Needs.{needs}
+use Rattle.stock.proofs.StockLaws.{other-tag, same-tag}
+use Rattle.stock.proofs.shows_name.Statement.{statement}
+use Rattle.stock.proofs.shows_name.Tie as tie
+
+ruleset laws = (other-tag, same-tag, needs)
+
+returns : tie.Need-returns
+returns c = search laws
+
+holds-name-requires : tie.Need-holds-name-requires
+holds-name-requires c κs = search laws
+
+returns-2 : tie.Need-returns-2
+returns-2 c = search laws
+
+pub shows-name-spec : {M : Type 1} → statement M
+shows-name-spec =
+    tie.close
+    (tie.spec returns holds-name-requires returns-2)

@@ -1,0 +1,21 @@
+-- `stock::tagged` meets its contract. Assumes nothing.
+use borrow.Author.Needs.{needs}
+use Rattle.stock.proofs.StockLaws.{tag-fits, tag-part-fits, tag-is}
+use Rattle.stock.proofs.tagged.Statement.{statement}
+use Rattle.stock.proofs.tagged.Tie as tie
+
+ruleset laws = (tag-fits, tag-part-fits, tag-is, needs)
+
+mul-result : tie.Need-mul-result
+mul-result c = search laws
+
+add-result : tie.Need-add-result
+add-result c = search laws
+
+returns : tie.Need-returns
+returns c = search laws
+
+pub tagged-spec : {M : Type 1} → statement M
+tagged-spec =
+    tie.close
+    (tie.spec mul-result add-result returns)
