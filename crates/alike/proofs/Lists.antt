@@ -1,15 +1,13 @@
 -- Two files compare as the lists of records that they say.
 use Prim.Native.Nat.{ℕ}
 use mathlib.Core.Path.{_≡_, refl, sym, ap, _∙_, subst}
-use mathlib.Core.List.{List, [], _∷_, _++_}
+use mathlib.Core.List.{List, [], _∷_}
 use native.Mathlib.Omega.{arith}
-use lib.IntN.{ℤ, pos}
-use lib.ListN.{length, take, drop, replicate, length-append, length-replicate}
-use lib.Seq.{take-at, drop-at}
-use Rattle.form.specs.Values.{Value, Rec}
+use lib.IntN.{ℤ}
+use lib.ListN.{length, length-append}
+use Rattle.form.specs.Values.{Rec}
 use Rattle.form.specs.Layouts.{typesOf}
 use Rattle.form.specs.declared.Rules.the-variants.{Idf3}
-use Rattle.form.specs.declared.FieldType.{FieldType}
 use Rattle.lines.specs.Rows.{width}
 use Rattle.lines.specs.Meaning.{Holds}
 use Rattle.records.specs.declared.State.{State}
@@ -22,6 +20,7 @@ use Rattle.files.specs.WholeRules.{FileSays}
 use Rattle.files.proofs.Traced as line
 use Rattle.files.proofs.Traced.{Follows, trace-follows}
 use Rattle.files.proofs.Checked.{check-rows}
+use Rattle.files.proofs.RowsTold.{row-wide, columns-one, rest-one}
 use Rattle.comparing.specs.Ignoring.{nothing}
 use Rattle.comparing.specs.SameLists.{listIn, listOf, sameLists, sameFiles}
 use Rattle.alike.proofs.Values.{sameRecs}
@@ -39,9 +38,6 @@ data Wide : Trace → Type 0 where
   skip : {l : ℕ} {t : Trace} → Wide t → Wide (walk.skip l t)
   row : {l : ℕ} {x : List ℤ} {t : Trace} → length x ≡ width → Wide t → Wide (walk.row l x t)
 
-row-wide : {file : List ℕ} {k : ℕ} {ts : List FieldType} {x : List ℤ} {vs : List Value} → Holds file k ts x vs → length x ≡ width
-row-wide h = rw (h .is) (omega (arith, h .ten, length-append (h .columns) (replicate (h .left) (pos 0)), length-replicate (h .left) (pos 0)))
-
 follows-wide : {file : List ℕ} {st : State} {ls : List (List ℕ)} {k : ℕ} {t : Trace} → Follows file st ls k t → Wide t
 follows-wide (line.done a b) = done
 follows-wide (line.stop e) = stop
@@ -49,12 +45,6 @@ follows-wide (line.skip e f) = skip (follows-wide f)
 follows-wide (line.row e h f) = row (row-wide h) (follows-wide f)
 
 -- so rows one after the other are parted in one way
-front-one : (cs ds es gs : List ℤ) → length cs ≡ length ds → cs ++ es ≡ ds ++ gs → cs ≡ ds
-front-one cs ds es gs h e = sym (take-at cs es (length cs) refl) ∙ ap (take (length cs)) e ∙ take-at ds gs (length cs) (sym h)
-
-rest-one : (cs ds es gs : List ℤ) → length cs ≡ length ds → cs ++ es ≡ ds ++ gs → es ≡ gs
-rest-one cs ds es gs h e = sym (drop-at cs es (length cs) refl) ∙ ap (drop (length cs)) e ∙ drop-at ds gs (length cs) (sym h)
-
 module _ (file : List ℕ) where
   nothing-left : {rs : List Rec} {xs : List ℤ} → RowsMean file rs xs → xs ≡ [] → ListMeans file rs []
   nothing-left rows.none e = none
@@ -68,7 +58,7 @@ module _ (file : List ℕ) where
   parted (row {x = y} {t = t} n w) rows.none e = absurd (omega (arith, n, ap length e, length-append y (rowsIn t)))
   parted (row {x = y} {t = t} n w) (rows.row {r = r} {x = x} {xs = xs} h m) e =
       let l : length x ≡ length y = row-wide h ∙ sym n in
-      more (subst (λ (z : List ℤ). Holds file (r .kind) (typesOf Idf3 (r .kind)) z (r .values)) (front-one x y xs (rowsIn t) l e) h) (parted w m (rest-one x y xs (rowsIn t) l e))
+      more (subst (λ (z : List ℤ). Holds file (r .kind) (typesOf Idf3 (r .kind)) z (r .values)) (columns-one x y xs (rowsIn t) l e) h) (parted w m (rest-one x y xs (rowsIn t) l e))
 
   list-means : {rs : List Rec} → FileSays Idf3 rs file → ListMeans file rs (listOf file)
   list-means s = parted (follows-wide (trace-follows file)) (check-rows file s) refl

@@ -20,7 +20,7 @@ use Rattle.spans.specs.Texts.{textIs, sameTexts}
 use Rattle.naming.specs.Names.{sameNames}
 use Rattle.judging.specs.Entries.{entryIn, hasEntry}
 use Rattle.judging.specs.Stocked.{Stocked}
-use Rattle.stock.specs.Stock.{kindFor, codeFor, packOf, packedRow, isNamed, holdsName, tagged, showsBy, showsName, putName, stockedRow, stockIn, stockOf}
+use Rattle.stock.specs.Stock.{kindFor, codeFor, packOf, packedRow, isNamed, holdsName, tagOf, tagged, showsBy, showsName, putName, stockedRow, stockIn, stockOf}
 
 -- an empty slot holds no name
 empty-none : (library : List ℕ) (k : Bool) (board : List ℕ) (x : List ℤ) → holdsName library k board x 0 ≡ false
@@ -34,7 +34,7 @@ and-none false b h = refl
 
 none-shown : (library : List ℕ) (k : Bool) (board : List ℕ) (x : List ℤ) → showsName library k board x 0 ≡ false
 unfolding showsBy
-none-shown library k board x = and-none (eqb 0 (keyOf board x % 8_192)) (holdsName library k board x 0) (empty-none library k board x)
+none-shown library k board x = and-none (eqb 0 (tagOf (keyOf board x))) (holdsName library k board x 0) (empty-none library k board x)
 
 abbrev namesOf : List ℕ → ℕ → ℕ → ℕ → ℕ → List ℕ → List ℤ → Bool
 namesOf library a l b m board x = sameTexts library (pos a) (pos l) board (columnAt x 1) (columnAt x 2) && sameTexts library (pos b) (pos m) board (columnAt x 3) (columnAt x 4)
@@ -113,9 +113,9 @@ shown-true : (library : List ℕ) (j k : Bool) (h : ℕ) (y : List ℤ) (board :
 unfolding showsBy tagged
 shown-true library j k h y board x e =
     let p : ℕ = packedRow k y in
-    let z : (p * 8_192 + h % 8_192) / 8_192 ≡ p = omega arith in
+    let z : (p * 8_192 + tagOf h) / 8_192 ≡ p = omega arith in
     row-true library j k y board x
-    (sym (ap (holdsName library j board x) z) ∙ and-right (eqb ((p * 8_192 + h % 8_192) % 8_192) (keyOf board x % 8_192)) (holdsName library j board x ((p * 8_192 + h % 8_192) / 8_192)) e)
+    (sym (ap (holdsName library j board x) z) ∙ and-right (eqb ((p * 8_192 + tagOf h) % 8_192) (tagOf (keyOf board x))) (holdsName library j board x ((p * 8_192 + tagOf h) / 8_192)) e)
 
 -- a row of the library, in the slots
 module _ (library places : List ℕ) (y : List ℤ) (s : Stocked library places) where
@@ -194,8 +194,14 @@ empty-stocked library n h = record {
   has = λ i k board x e. absurd (false≢true (sym (none-shown library k board x) ∙ sym (ap (showsName library k board x) (none-held n i)) ∙ e));
 }
 
-pub filled-stocked : (library ys : List ℕ) → ys ≡ stockOf library (empty 65_536) → Stocked library ys
-filled-stocked library ys e = subst (Stocked library) (sym e) (stock-true library (empty 65_536) (empty-stocked library 65_536 (omega arith)))
+filled : (library ys : List ℕ) (n : ℕ) → looks < n → ys ≡ stockOf library (empty n) → Stocked library ys
+filled library ys n h e = subst (Stocked library) (sym e) (stock-true library (empty n) (empty-stocked library n h))
+
+pub filled-all : (library ys : List ℕ) → ys ≡ stockOf library (empty 61_440) → Stocked library ys
+filled-all library ys e = filled library ys 61_440 (omega arith) e
+
+pub filled-few : (library ys : List ℕ) → ys ≡ stockOf library (empty 2_048) → Stocked library ys
+filled-few library ys e = filled library ys 2_048 (omega arith) e
 
 -- as the code asks them
 module _ (library places : List ℕ) (s : Stocked library places) where

@@ -1,6 +1,7 @@
 // A whole board or panel, judged against a whole library.
 use crate::entries;
 use form::FileType;
+use naming::SMALL;
 use reading::whole;
 use records::Reply;
 use records::Verdict;
@@ -15,8 +16,10 @@ ghost use Rattle.records.specs.Answers.{limit, verdict};
 ghost use Rattle.judging.specs.Stocked.{Stocked};
 ghost use Rattle.judging.specs.Verdicts.{refusedAs, typeOf, numbered, placed, served, matched, withLibrary, judgeReply};
 
-// How many slots there are for a library's components, 512 KiB of them.
-const PLACES: usize = 65_536;
+// How many slots there are for a library's components, 480 KiB of them; and how many are enough for a small library.
+const PLACES: usize = 61_440;
+
+const FEW: usize = 2_048;
 
 // A verdict on no line.
 fn verdict(number: u64, count: u64, which: u64) -> Verdict
@@ -111,14 +114,35 @@ fn placed_by(library: &[u8], places: &[u64], board: &[u8]) -> Verdict
     verdict(0, n, 0)
 }
 
-// The same with a library that is not in slots yet.
-fn placed(library: &[u8], board: &[u8]) -> Verdict
+// The same with a library that is not in slots yet, and few slots at hand.
+fn placed_few(library: &[u8], board: &[u8]) -> Verdict
+    requires { ⌜ (length (now library) ≤ limit) × (length (now board) ≤ limit) ⌝ }
+    ensures { λ r. ⌜ r ≡ placed (now (library .entry)) (now (board .entry)) ⌝ }
+{
+    let mut places: [u64; FEW] = [0; FEW];
+    stock::fill(library, &mut places);
+    placed_by(library, &places, board)
+}
+
+// The same with all slots.
+fn placed_all(library: &[u8], board: &[u8]) -> Verdict
     requires { ⌜ (length (now library) ≤ limit) × (length (now board) ≤ limit) ⌝ }
     ensures { λ r. ⌜ r ≡ placed (now (library .entry)) (now (board .entry)) ⌝ }
 {
     let mut places: [u64; PLACES] = [0; PLACES];
     stock::fill(library, &mut places);
     placed_by(library, &places, board)
+}
+
+// The same with as many slots as the library's size asks for.
+fn placed(library: &[u8], board: &[u8]) -> Verdict
+    requires { ⌜ (length (now library) ≤ limit) × (length (now board) ≤ limit) ⌝ }
+    ensures { λ r. ⌜ r ≡ placed (now (library .entry)) (now (board .entry)) ⌝ }
+{
+    if library.len() < SMALL {
+        return placed_few(library, board);
+    }
+    placed_all(library, board)
 }
 
 // An accepted board or panel: 17 unless the other file is a library.

@@ -10,8 +10,13 @@ ghost use Rattle.records.specs.Answers.{limit};
 ghost use Rattle.naming.specs.Names.{sameNames, leadsComponent, isNamed, namesSame, isUsed, repeatsAt};
 ghost use Rattle.naming.specs.Marks.{keyOf, markedBy, Telling};
 
-// How many marks of names a walk has at hand, 512 KiB of them.
-pub const MARKS: usize = 131_072;
+// How many marks of names a walk has at hand, 496 KiB of them; and how many are enough for fewer than so many bytes, or so many
+// numbers of rows.
+pub const MARKS: usize = 253_952;
+
+pub const FEW: usize = 4_096;
+
+pub const SMALL: usize = 32_768;
 
 // Whether two rows, each of its own file, have the same geometry and part, their first two texts.
 pub fn same_names(first: &[u8], x: [i64; WIDTH], second: &[u8], y: [i64; WIDTH]) -> bool
@@ -88,7 +93,7 @@ pub fn key(file: &[u8], x: [i64; WIDTH]) -> u64
 }
 
 // Whether line n names a component as a line before it did; a name without a mark came on none, and gets its mark here.
-pub fn repeats(file: &[u8], n: u64, t: Turn, marks: &mut [u32]) -> bool
+pub fn repeats(file: &[u8], n: u64, t: Turn, marks: &mut [u16]) -> bool
     requires { ⌜ (length (now file) ≤ limit) × Telling (now file) n (now marks) ⌝ }
     ensures { λ r. ⌜ r ≡ repeatsAt (now (file .entry)) n t ⌝ }
     ensures { λ _. ⌜ now (marks .exit) ≡ markedBy (now (file .entry)) (now (marks .entry)) t ⌝ }

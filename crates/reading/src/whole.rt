@@ -1,7 +1,9 @@
 // A whole file, checked or read into lent rows.
 use crate::rows;
 use lines::WIDTH;
+use naming::FEW;
 use naming::MARKS;
+use naming::SMALL;
 use records::LIMIT;
 use records::Reply;
 use walking::Found;
@@ -53,7 +55,7 @@ fn ended(r: Reply, w: Walk) -> Reply
 }
 
 // A file by all rules but size; `marks` are those of the names that came.
-fn walked(file: &[u8], marks: &mut [u32]) -> Reply
+fn walked(file: &[u8], marks: &mut [u16]) -> Reply
     requires { ⌜ (length (now file) ≤ limit) × (looks < length (now marks)) ⌝ }
     ensures { λ r. ⌜ r ≡ withinReply (now (file .entry)) ⌝ }
 {
@@ -77,15 +79,35 @@ fn walked(file: &[u8], marks: &mut [u32]) -> Reply
     ended(r, w)
 }
 
-// A file's reply: 0 with the number of its rows, or its first refusal.
+// A file within the limit, with few marks at hand.
+fn by_few(file: &[u8]) -> Reply
+    requires { ⌜ length (now file) ≤ limit ⌝ }
+    ensures { λ r. ⌜ r ≡ withinReply (now (file .entry)) ⌝ }
+{
+    let mut marks: [u16; FEW] = [0; FEW];
+    walked(file, &mut marks)
+}
+
+// The same with all marks.
+fn by_all(file: &[u8]) -> Reply
+    requires { ⌜ length (now file) ≤ limit ⌝ }
+    ensures { λ r. ⌜ r ≡ withinReply (now (file .entry)) ⌝ }
+{
+    let mut marks: [u16; MARKS] = [0; MARKS];
+    walked(file, &mut marks)
+}
+
+// A file's reply: 0 with the number of its rows, or its first refusal. A small file has a small table, which is sooner empty.
 pub fn check(file: &[u8]) -> Reply
     ensures { λ r. ⌜ r ≡ checkReply (now (file .entry)) ⌝ }
 {
     if LIMIT < file.len() {
         return refusal(1, 0);
     }
-    let mut marks: [u32; MARKS] = [0; MARKS];
-    walked(file, &mut marks)
+    if file.len() < SMALL {
+        return by_few(file);
+    }
+    by_all(file)
 }
 
 // A file's rows from the front of the slice on, where they fit; the slice stays as it is on every refusal.

@@ -1,4 +1,5 @@
-// Where a file stands between two lines, and why a record is refused there: the types and the definitions of `kinds` and `states`.
+// Where a file stands between two lines, why a record is refused there, and what the operations answer: types and definitions that
+// other crates share.
 use form::FileType;
 use loops::LoopState;
 

@@ -37,6 +37,6 @@ pub slot-is : (h n : ℕ) → h % (n - looks) ≡ slotOf h n
 unfolding slotOf
 slot-is h n = refl
 
-pub mark-is : (h : ℕ) → h / 2_147_483_648 % 4_294_967_295 + 1 ≡ markOf h
+pub mark-is : (h : ℕ) → h / 2_147_483_648 % 65_535 + 1 ≡ markOf h
 unfolding markOf
 mark-is h = refl

@@ -14,4 +14,4 @@ slotOf h n = h % (n - looks)
 
 -- a mark is never 0, which is an empty slot
 unfoldable pub markOf : ℕ → ℕ
-markOf h = h / 2_147_483_648 % 4_294_967_295 + 1
+markOf h = h / 2_147_483_648 % 65_535 + 1

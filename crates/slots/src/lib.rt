@@ -44,14 +44,14 @@ pub fn slot_of(h: u64, n: usize) -> usize
 }
 
 // The mark of a hash, never 0.
-fn mark_of(h: u64) -> u32
+fn mark_of(h: u64) -> u16
     ensures { λ r. ⌜ r ≡ markOf h ⌝ }
 {
-    (h / 2_147_483_648 % 4_294_967_295 + 1) as u32
+    (h / 2_147_483_648 % 65_535 + 1) as u16
 }
 
 // Puts m into the first empty slot from a place on; whether it may have been there: it was, or no slot looked at was empty.
-fn put_mark(slots: &mut [u32], from: usize, m: u32) -> bool
+fn put_mark(slots: &mut [u16], from: usize, m: u16) -> bool
     requires { ⌜ from + looks ≤ length (now slots) ⌝ }
     ensures { λ r. ⌜ r ≡ lookFrom true looks (is m) (now (slots .entry)) from ⌝ }
     ensures { λ _. ⌜ now (slots .exit) ≡ putFrom looks (now (slots .entry)) from m ⌝ }
@@ -93,7 +93,7 @@ fn put_number(slots: &mut [u64], from: usize, m: u64) -> bool
 }
 
 // Marks a hash, and answers whether it may have been marked before.
-pub fn mark(slots: &mut [u32], h: u64) -> bool
+pub fn mark(slots: &mut [u16], h: u64) -> bool
     requires { ⌜ looks < length (now slots) ⌝ }
     ensures { λ r. ⌜ r ≡ mayHold (now (slots .entry)) h ⌝ }
     ensures { λ _. ⌜ now (slots .exit) ≡ marked (now (slots .entry)) h ⌝ }

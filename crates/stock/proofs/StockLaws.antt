@@ -28,7 +28,7 @@ use Rattle.walking.specs.Walks.{begun, turnOf, stopsBy, isRow, Steady, Trace, t
 use Rattle.naming.specs.Marks.{keyOf}
 use Rattle.walking.proofs.WalkLaws.{Going, going-start, going-trace, going-less, going-more, going-end}
 use Rattle.spans.specs.Texts.{sameTexts}
-use Rattle.stock.specs.Stock.{kindFor, codeFor, packOf, packedRow, isNamed, holdsName, tagged, showsBy, showsName, putName, stockedRow, stockedBy, stockIn, stockOf}
+use Rattle.stock.specs.Stock.{kindFor, codeFor, packOf, packedRow, isNamed, holdsName, tagOf, tagged, showsBy, showsName, putName, stockedRow, stockedBy, stockIn, stockOf}
 use Rattle.walking.proofs.LineLaws.{column}
 
 pub kind-mechanical : (b : Bool) → b ≡ true → pos 151 ≡ kindFor b
@@ -127,25 +127,29 @@ pack-small k y r e =
     go a l b m false false false false false e1 e2 e3 e5 =
         omega (arith, code-small k (codeFor k) refl, ltb-false 16_777_216 a e1, ltb-false 255 l e2, ltb-false 255 m e3, ltb-false 255 (b - (a + l)) e5)
 
-pub tag-fits : (h e : ℕ) → e < 2 ^ 51 → Fits w64 (e * 8_192 + h % 8_192)
-tag-fits h e l = omega arith
+module _ (h e t : ℕ) (g : t ≡ tagOf h) where
+  tag-small : t < 8_192
+  tag-small = rw g (omega arith)
 
-pub tag-part-fits : (e : ℕ) → e < 2 ^ 51 → Fits w64 (e * 8_192)
-tag-part-fits e l = omega arith
+  pub tag-fits : e < 2 ^ 51 → Fits w64 (e * 8_192 + t)
+  tag-fits l = omega (arith, tag-small)
 
-pub tag-is : (h e : ℕ) → e * 8_192 + h % 8_192 ≡ tagged h e
-unfolding tagged
-tag-is h e = refl
+  pub tag-is : e * 8_192 + t ≡ tagged h e
+  unfolding tagged
+  tag-is = rw g
+
+pub tag-room : (e : ℕ) → e < 2 ^ 51 → Fits w64 (e * 8_192)
+tag-room e l = omega arith
 
 -- a tag that differs, or agrees
-module _ (library : List ℕ) (h e : ℕ) (k : Bool) (board : List ℕ) (x : List ℤ) where
-  pub other-tag : (e % 8_192 ≡ h % 8_192 → ⊥) → false ≡ showsBy library h k board x e
+module _ (library : List ℕ) (h e : ℕ) (k : Bool) (board : List ℕ) (x : List ℤ) (t : ℕ) (g : t ≡ tagOf h) where
+  pub other-tag : (e % 8_192 ≡ t → ⊥) → false ≡ showsBy library h k board x e
   unfolding showsBy
-  other-tag n = rw (ne-eqb (e % 8_192) (h % 8_192) n)
+  other-tag n = rw (sym g, ne-eqb (e % 8_192) t n)
 
-  pub same-tag : (r : Bool) → e % 8_192 ≡ h % 8_192 → r ≡ holdsName library k board x (e / 8_192) → r ≡ showsBy library h k board x e
+  pub same-tag : (r : Bool) → e % 8_192 ≡ t → r ≡ holdsName library k board x (e / 8_192) → r ≡ showsBy library h k board x e
   unfolding showsBy
-  same-tag r n i = rw (eq-eqb (e % 8_192) (h % 8_192) n) i
+  same-tag r n i = rw (sym g, eq-eqb (e % 8_192) t n) i
 
 -- names into their slot
 pub name-put : (library places : List ℕ) (k : Bool) (y : List ℤ) (h p m : ℕ) (ys : List ℕ) → h ≡ keyOf library y → p ≡ packedRow k y → m ≡ tagged h p → ys ≡ slot.placed places h m

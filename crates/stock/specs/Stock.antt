@@ -46,12 +46,16 @@ isNamed library e board x =
 unfoldable pub holdsName : List ℕ → Bool → List ℕ → List ℤ → ℕ → Bool
 holdsName library mechanical board x e = eqb (e % 4) (codeFor mechanical) && isNamed library e board x
 
--- such a number with some bits of its name's hash behind it, so that most others are told apart without a look at their names
+-- some bits of a hash, others than those that tell its slot
+abbrev pub tagOf : ℕ → ℕ
+tagOf h = h / 2_147_483_648 % 8_192
+
+-- such a number with its name's tag behind it, so that most others are told apart without a look at their names
 unfoldable pub tagged : ℕ → ℕ → ℕ
-tagged h e = e * 8_192 + h % 8_192
+tagged h e = e * 8_192 + tagOf h
 
 unfoldable pub showsBy : List ℕ → ℕ → Bool → List ℕ → List ℤ → ℕ → Bool
-showsBy library h mechanical board x e = eqb (e % 8_192) (h % 8_192) && holdsName library mechanical board x (e / 8_192)
+showsBy library h mechanical board x e = eqb (e % 8_192) (tagOf h) && holdsName library mechanical board x (e / 8_192)
 
 -- a slot's number is the entry of a board's row x, of this kind
 abbrev pub showsName : List ℕ → Bool → List ℕ → List ℤ → ℕ → Bool

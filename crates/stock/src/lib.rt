@@ -12,7 +12,7 @@ ghost use Rattle.slots.specs.Looks.{looks};
 ghost use Rattle.slots.specs.Slots.{holds};
 ghost use Rattle.records.specs.Answers.{limit};
 ghost use Rattle.naming.specs.Marks.{keyOf};
-ghost use Rattle.stock.specs.Stock.{codeFor, packOf, packedRow, isNamed, holdsName, tagged, showsBy, showsName, putName, stockedRow, stockedBy, stockOf};
+ghost use Rattle.stock.specs.Stock.{codeFor, packOf, packedRow, isNamed, holdsName, tagOf, tagged, showsBy, showsName, putName, stockedRow, stockedBy, stockOf};
 
 // The code of a kind: an electrical or a mechanical component.
 fn code_for(mechanical: bool) -> u64
@@ -81,12 +81,19 @@ fn holds_name(library: &[u8], e: u64, mechanical: bool, board: &[u8], x: [i64; W
     is_named(library, e, board, x)
 }
 
-// Such a number with some bits of its name's hash behind it, so that most others are told apart without a look at their names.
+// Some bits of a hash, others than those that tell its slot.
+fn tag_of(h: u64) -> u64
+    ensures { λ r. ⌜ r ≡ tagOf h ⌝ }
+{
+    h / 2_147_483_648 % 8_192
+}
+
+// Such a number with its name's tag behind it, so that most others are told apart without a look at their names.
 fn tagged(h: u64, e: u64) -> u64
     requires { ⌜ e < 2 ^ 51 ⌝ }
     ensures { λ r. ⌜ r ≡ tagged h e ⌝ }
 {
-    e * 8_192 + h % 8_192
+    e * 8_192 + tag_of(h)
 }
 
 // Whether a slot's number is a placement's entry, of this kind; h is the hash of the placement's name.
@@ -100,7 +107,7 @@ fn shows_name(
 ) -> bool
     ensures { λ r. ⌜ r ≡ showsBy (now (library .entry)) h mechanical (now (board .entry)) x e ⌝ }
 {
-    if e % 8_192 != h % 8_192 {
+    if e % 8_192 != tag_of(h) {
         return false;
     }
     holds_name(library, e / 8_192, mechanical, board, x)

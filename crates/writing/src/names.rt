@@ -1,7 +1,9 @@
 // Components by name, among rows: no two share both geometry and part.
 use crate::rows;
 use lines::WIDTH;
+use naming::FEW;
 use naming::MARKS;
+use naming::SMALL;
 use naming::key;
 use naming::leads_component;
 use naming::same_names;
@@ -42,7 +44,7 @@ fn named_from(rows: &[i64], bytes: &[u8], from: usize, x: [i64; WIDTH]) -> bool
 
 // Whether a row before those from number `from` on names a component that one of them names again; a name without a mark
 // is named by none of them, and gets its mark here.
-fn names_again(rows: &[i64], bytes: &[u8], from: usize, x: [i64; WIDTH], marks: &mut [u32]) -> bool
+fn names_again(rows: &[i64], bytes: &[u8], from: usize, x: [i64; WIDTH], marks: &mut [u16]) -> bool
     requires { ⌜ Told (now bytes) (drop from (wholeRows (now rows))) (now marks) ⌝ }
     ensures { λ r. ⌜ r ≡ (leadsComponent x && namedIn (now (bytes .entry)) x (drop from (wholeRows (now (rows .entry))))) ⌝ }
     ensures { λ _. ⌜ now (marks .exit) ≡ markedRow (now (bytes .entry)) (now (marks .entry)) x ⌝ }
@@ -57,7 +59,7 @@ fn names_again(rows: &[i64], bytes: &[u8], from: usize, x: [i64; WIDTH], marks: 
 }
 
 // Whether two rows name one component, from the last row back; `marks` are those of the names behind.
-fn twice_by(rows: &[i64], bytes: &[u8], marks: &mut [u32]) -> bool
+fn twice_by(rows: &[i64], bytes: &[u8], marks: &mut [u16]) -> bool
     requires { ⌜ looks < length (now marks) ⌝ }
     ensures { λ r. ⌜ r ≡ twice (now (bytes .entry)) (wholeRows (now (rows .entry))) ⌝ }
 {
@@ -72,10 +74,28 @@ fn twice_by(rows: &[i64], bytes: &[u8], marks: &mut [u32]) -> bool
     false
 }
 
+// The same with few marks at hand.
+fn twice_by_few(rows: &[i64], bytes: &[u8]) -> bool
+    ensures { λ r. ⌜ r ≡ twice (now (bytes .entry)) (wholeRows (now (rows .entry))) ⌝ }
+{
+    let mut marks: [u16; FEW] = [0; FEW];
+    twice_by(rows, bytes, &mut marks)
+}
+
+// The same with all marks.
+fn twice_by_all(rows: &[i64], bytes: &[u8]) -> bool
+    ensures { λ r. ⌜ r ≡ twice (now (bytes .entry)) (wholeRows (now (rows .entry))) ⌝ }
+{
+    let mut marks: [u16; MARKS] = [0; MARKS];
+    twice_by(rows, bytes, &mut marks)
+}
+
 // Whether two rows name one component.
 pub(crate) fn some_twice(rows: &[i64], bytes: &[u8]) -> bool
     ensures { λ r. ⌜ r ≡ twice (now (bytes .entry)) (wholeRows (now (rows .entry))) ⌝ }
 {
-    let mut marks: [u32; MARKS] = [0; MARKS];
-    twice_by(rows, bytes, &mut marks)
+    if rows.len() < SMALL {
+        return twice_by_few(rows, bytes);
+    }
+    twice_by_all(rows, bytes)
 }

@@ -6,6 +6,9 @@ use Rattle.stock.proofs.shows_name.Tie as tie
 
 ruleset laws = (other-tag, same-tag, needs)
 
+tag-of-requires : tie.Need-tag-of-requires
+tag-of-requires c κs = search laws
+
 returns : tie.Need-returns
 returns c = search laws
 
@@ -18,4 +21,4 @@ returns-2 c = search laws
 pub shows-name-spec : {M : Type 1} → statement M
 shows-name-spec =
     tie.close
-    (tie.spec returns holds-name-requires returns-2)
+    (tie.spec tag-of-requires returns holds-name-requires returns-2)

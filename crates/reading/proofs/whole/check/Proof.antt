@@ -13,16 +13,19 @@ refusal-requires c κs = search laws
 returns : tie.Need-returns
 returns c = search laws
 
-slice-aggregate-walked : tie.Need-slice-aggregate-walked
-slice-aggregate-walked c = search laws
-
-walked-requires : tie.Need-walked-requires
-walked-requires c κs = search laws
+by-few-requires : tie.Need-by-few-requires
+by-few-requires c κs = search laws
 
 returns-2 : tie.Need-returns-2
 returns-2 c = search laws
 
+by-all-requires : tie.Need-by-all-requires
+by-all-requires c κs = search laws
+
+returns-3 : tie.Need-returns-3
+returns-3 c = search laws
+
 pub check-spec : {M : Type 1} → statement M
 check-spec =
     tie.close
-    (tie.spec refusal-requires returns slice-aggregate-walked walked-requires returns-2)
+    (tie.spec refusal-requires returns by-few-requires returns-2 by-all-requires returns-3)

@@ -1,10 +1,10 @@
--- `judging::whole::placed` meets its contract. Assumes nothing.
+-- `judging::whole::placed_few` meets its contract. Assumes nothing.
 use borrow.Author.Needs.{needs}
-use Rattle.judging.proofs.StockTrue.{filled-stocked}
-use Rattle.judging.proofs.whole.placed.Statement.{statement}
-use Rattle.judging.proofs.whole.placed.Tie as tie
+use Rattle.judging.proofs.StockTrue.{filled-few}
+use Rattle.judging.proofs.whole.placed_few.Statement.{statement}
+use Rattle.judging.proofs.whole.placed_few.Tie as tie
 
-ruleset laws = (filled-stocked, needs)
+ruleset laws = (filled-few, needs)
 
 slice-aggregate-fill : tie.Need-slice-aggregate-fill
 slice-aggregate-fill c = search laws
@@ -21,7 +21,7 @@ placed-by-requires c κs = search laws
 returns : tie.Need-returns
 returns c = search laws
 
-pub placed-spec : {M : Type 1} → statement M
-placed-spec =
+pub placed-few-spec : {M : Type 1} → statement M
+placed-few-spec =
     tie.close
     (tie.spec slice-aggregate-fill fill-requires slice-aggregate-placed-by placed-by-requires returns)

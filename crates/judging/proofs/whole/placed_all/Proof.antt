@@ -1,0 +1,27 @@
+-- `judging::whole::placed_all` meets its contract. Assumes nothing.
+use borrow.Author.Needs.{needs}
+use Rattle.judging.proofs.StockTrue.{filled-all}
+use Rattle.judging.proofs.whole.placed_all.Statement.{statement}
+use Rattle.judging.proofs.whole.placed_all.Tie as tie
+
+ruleset laws = (filled-all, needs)
+
+slice-aggregate-fill : tie.Need-slice-aggregate-fill
+slice-aggregate-fill c = search laws
+
+fill-requires : tie.Need-fill-requires
+fill-requires c κs = search laws
+
+slice-aggregate-placed-by : tie.Need-slice-aggregate-placed-by
+slice-aggregate-placed-by c = search laws
+
+placed-by-requires : tie.Need-placed-by-requires
+placed-by-requires c κs = search laws
+
+returns : tie.Need-returns
+returns c = search laws
+
+pub placed-all-spec : {M : Type 1} → statement M
+placed-all-spec =
+    tie.close
+    (tie.spec slice-aggregate-fill fill-requires slice-aggregate-placed-by placed-by-requires returns)
