@@ -9,7 +9,7 @@ use lib.Dec.{ltb, eqb}
 use lib.IntN.{ℤ, pos}
 use lib.ListN.{length}
 use Rattle.form.specs.declared.FileType.{FileType}
-use Rattle.form.specs.declared.FileType.the-variants.{Board, Panel, Library}
+use Rattle.form.specs.declared.FileType.the-variants.{Library}
 use Rattle.loops.specs.Loops.{eqZ}
 use Rattle.records.specs.Marks.{isLibrary}
 use Rattle.walking.specs.declared.Found.{Found}
@@ -209,18 +209,14 @@ module _ (library board : List ℕ) (b : FileType) (f : b ≡ typeOf library) (y
   unfolding served
   second-right g k = rw (ap isLibrary (sym f) ∙ sym j ∙ not-false y g) k
 
-module _ (library board : List ℕ) (a : FileType) (e : a ≡ typeOf board) (v : Verdict) where
-  pub first-board : a ≡ Board → v ≡ served library board → v ≡ matched library board
-  unfolding matched served
-  first-board h k = rw (sym e ∙ h) k
-
-  pub first-panel : a ≡ Panel → v ≡ served library board → v ≡ matched library board
-  unfolding matched served
-  first-panel h k = rw (sym e ∙ h) k
-
-  pub first-wrong : a ≡ Library → v ≡ verdict 17 0 0 1 → v ≡ matched library board
+module _ (library board : List ℕ) (a : FileType) (e : a ≡ typeOf board) (x : Bool) (i : x ≡ isLibrary a) (v : Verdict) where
+  pub first-wrong : x ≡ true → v ≡ verdict 17 0 0 1 → v ≡ matched library board
   unfolding matched
-  first-wrong h k = rw (sym e ∙ h) k
+  first-wrong h k = rw (sym e, sym i, h) k
+
+  pub first-right : x ≡ false → v ≡ served library board → v ≡ matched library board
+  unfolding matched served
+  first-right h k = rw (sym e, sym i, h) k
 
 -- an accepted file is not too large
 pub checked-small : (file : List ℕ) (r : Reply) → r ≡ checkReply file → r .number ≡ 0 → length file ≤ limit

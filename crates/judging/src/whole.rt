@@ -156,17 +156,15 @@ fn served(library: &[u8], board: &[u8]) -> Verdict
     placed(library, board)
 }
 
-// Two accepted files: 17 unless the first is a board or panel, and the second a library. The two calls of `served` keep the
-// slots out of the frame that calls `check`, which has as many of its own.
+// Two accepted files: 17 unless the first is a board or panel, and the second a library.
 fn matched(library: &[u8], board: &[u8]) -> Verdict
     requires { ⌜ (length (now library) ≤ limit) × (length (now board) ≤ limit) ⌝ }
     ensures { λ r. ⌜ r ≡ matched (now (library .entry)) (now (board .entry)) ⌝ }
 {
-    match file_type(board) {
-        FileType::Board => served(library, board),
-        FileType::Panel => served(library, board),
-        FileType::Library => verdict(17, 0, 1),
+    if is_library(file_type(board)) {
+        return verdict(17, 0, 1);
     }
+    served(library, board)
 }
 
 // An accepted board, with a library that may be refused.

@@ -1,28 +1,16 @@
 -- `judging::whole::matched` meets its contract. Assumes nothing.
 use borrow.Author.Needs.{needs}
-use Rattle.judging.proofs.VerdictLaws.{first-board, first-panel, first-wrong}
+use Rattle.judging.proofs.VerdictLaws.{first-wrong, first-right}
 use Rattle.judging.proofs.whole.matched.Statement.{statement}
 use Rattle.judging.proofs.whole.matched.Tie as tie
 
-ruleset laws = (first-board, first-panel, first-wrong, needs)
+ruleset laws = (first-wrong, first-right, needs)
 
 file-type-requires : tie.Need-file-type-requires
 file-type-requires c κs = search laws
 
-enum-told : tie.Need-enum-told
-enum-told c = search laws
-
-served-requires : tie.Need-served-requires
-served-requires c κs = search laws
-
-enum-told-2 : tie.Need-enum-told-2
-enum-told-2 c = search laws
-
-served-requires-2 : tie.Need-served-requires-2
-served-requires-2 c κs = search laws
-
-enum-told-3 : tie.Need-enum-told-3
-enum-told-3 c = search laws
+is-library-requires : tie.Need-is-library-requires
+is-library-requires c κs = search laws
 
 verdict-requires : tie.Need-verdict-requires
 verdict-requires c κs = search laws
@@ -30,13 +18,13 @@ verdict-requires c κs = search laws
 returns : tie.Need-returns
 returns c = search laws
 
+served-requires : tie.Need-served-requires
+served-requires c κs = search laws
+
 returns-2 : tie.Need-returns-2
 returns-2 c = search laws
-
-returns-3 : tie.Need-returns-3
-returns-3 c = search laws
 
 pub matched-spec : {M : Type 1} → statement M
 matched-spec =
     tie.close
-    (tie.spec file-type-requires enum-told served-requires enum-told-2 served-requires-2 enum-told-3 verdict-requires returns returns-2 returns-3)
+    (tie.spec file-type-requires is-library-requires verdict-requires returns served-requires returns-2)
