@@ -74,8 +74,8 @@ use Rattle.slots.proofs.hash.Kinds as slots-hash
 use Rattle.slots.proofs.hash.Reads as slots-hash-says
 use Rattle.slots.proofs.slot_of.Kinds as slots-slot-of
 use Rattle.slots.proofs.slot_of.Reads as slots-slot-of-says
-use Rattle.slots.proofs.mark.Kinds as slots-mark
-use Rattle.slots.proofs.mark.Reads as slots-mark-says
+use Rattle.slots.proofs.marks.mark.Kinds as slots-marks-mark
+use Rattle.slots.proofs.marks.mark.Reads as slots-marks-mark-says
 use Rattle.slots.proofs.place.Kinds as slots-place
 use Rattle.slots.proofs.place.Reads as slots-place-says
 use Rattle.demands.specs.Tight.{Tight}
@@ -207,8 +207,8 @@ tight-slots-hash κs a r q ws us e f = (e ∙ sym f, refl)
 pub tight-slots-slot-of : Tight 0 slots-slot-of.ps slots-slot-of.r slots-slot-of-says.Learnt
 tight-slots-slot-of κs a r q ws us e f = (e ∙ sym f, refl)
 
-pub tight-slots-mark : Tight 1 slots-mark.ps slots-mark.r slots-mark-says.Learnt
-tight-slots-mark κs a r q ws us e f = (e .0 ∙ sym (f .0), λ i. ((e .1 ∙ sym (f .1)) i, ws .1))
+pub tight-slots-marks-mark : Tight 1 slots-marks-mark.ps slots-marks-mark.r slots-marks-mark-says.Learnt
+tight-slots-marks-mark κs a r q ws us e f = (e .0 ∙ sym (f .0), λ i. ((e .1 ∙ sym (f .1)) i, ws .1))
 
 pub tight-slots-place : Tight 1 slots-place.ps slots-place.r slots-place-says.Learnt
 tight-slots-place κs a r q ws us e f = (refl, λ i. ((e ∙ sym f) i, ws .1))

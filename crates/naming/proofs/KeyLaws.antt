@@ -11,9 +11,8 @@ use lib.IntN.{ℤ}
 use lib.ListN.{length}
 use Rattle.text.proofs.Lists.{and-left, and-right}
 use Rattle.form.proofs.CompareLaws.{same-eq}
-use Rattle.slots.specs.Looks.{looks}
 use Rattle.slots.specs.Hashes.{hashed}
-use Rattle.slots.specs.Slots.{mayHold, marked}
+use Rattle.slots.specs.Marks.{mayHold, marked}
 use Rattle.walking.specs.declared.Turn.{Turn}
 use Rattle.walking.specs.Judging.{columnAt}
 use Rattle.walking.proofs.LineLaws.{column}
@@ -61,5 +60,5 @@ module _ (file : List ℕ) (t : Turn) (marks : List ℕ) (y : Bool) (e : y ≡ i
       unfolding repeatsAt
       named-clear a l = rw (sym e ∙ not-false y h) (sym (a .clear (t .row) (rw (sym i) (sym j ∙ l))))
 
-pub telling-room : (file : List ℕ) (n : ℕ) (marks : List ℕ) → Telling file n marks → looks < length marks
+pub telling-room : (file : List ℕ) (n : ℕ) (marks : List ℕ) → Telling file n marks → 0 < length marks
 telling-room file n marks a = a .room

@@ -5,9 +5,8 @@ use mathlib.Core.List.{List}
 use mathlib.Core.Bool.{false, cond}
 use lib.IntN.{ℤ}
 use lib.ListN.{length}
-use Rattle.slots.specs.Looks.{looks}
 use Rattle.slots.specs.Hashes.{hashed}
-use Rattle.slots.specs.Slots.{mayHold, marked}
+use Rattle.slots.specs.Marks.{mayHold, marked}
 use Rattle.walking.specs.declared.Turn.{Turn}
 use Rattle.walking.specs.Judging.{columnAt}
 use Rattle.spans.specs.Texts.{textAt}
@@ -23,5 +22,5 @@ markedBy file marks t = cond (isNamed t) (marked marks (keyOf file (t .row))) ma
 
 -- a name without a mark came on no line before line n
 pub record Telling (file : List ℕ) (n : ℕ) (marks : List ℕ) : Type 0 where
-  pub room : looks < length marks
+  pub room : 0 < length marks
   pub clear : (x : List ℤ) → mayHold marks (keyOf file x) ≡ false → isUsed file n x ≡ false

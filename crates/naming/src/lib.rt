@@ -102,7 +102,7 @@ pub fn repeats(file: &[u8], n: u64, t: Turn, marks: &mut [u16]) -> bool
     if !names_component(t) {
         return false;
     }
-    if slots::mark(marks, key(file, row)) {
+    if slots::marks::mark(marks, key(file, row)) {
         return is_used(file, n, row);
     }
     false

@@ -7,9 +7,8 @@ use native.Mathlib.Omega.{arith}
 use borrow.Author.Tests.{lt-ltb, le-ltb, eq-eqb, ne-eqb}
 use lib.IntN.{ℤ}
 use lib.ListN.{length}
-use Rattle.slots.specs.Looks.{looks}
-use Rattle.slots.specs.Slots.{mayHold}
-use Rattle.slots.proofs.SlotLaws.{marking-length, marking-keeps, marking-here}
+use Rattle.slots.specs.Marks.{mayHold}
+use Rattle.slots.proofs.MarkLaws.{marking-length, marking-keeps, marking-here}
 use Rattle.records.specs.declared.Reply.{Reply}
 use Rattle.walking.specs.declared.Walk.{Walk}
 use Rattle.walking.specs.declared.Turn.{Turn}
@@ -29,7 +28,7 @@ by-length file marks t = marking-length marks (keyOf file (t .row)) (isNamed t)
 
 -- a name without a mark comes in what is left, if at all
 pub record Marking (file : List ℕ) (w : Walk) (marks : List ℕ) : Type 0 where
-  pub room : looks < length marks
+  pub room : 0 < length marks
   pub clear : (n : ℕ) (x : List ℤ) → w .line ≤ n → mayHold marks (keyOf file x) ≡ false → usedIn file n x (traceAt file w) ≡ isUsed file n x
 
 line-on : (file : List ℕ) (w : Walk) (t : Turn) → t ≡ turnOf file w → t .walk .line ≡ w .line + 1
@@ -37,10 +36,10 @@ unfolding turnOf
 line-on file w t e = ap (λ (u : Turn). u .walk .line) e
 
 -- one more line takes no mark away, and marks the name that it has
-module _ (file marks : List ℕ) (t : Turn) (room : looks < length marks) where
+module _ (file marks : List ℕ) (t : Turn) (room : 0 < length marks) where
   clear-before : (g : ℕ) → mayHold (markedBy file marks t) g ≡ false → mayHold marks g ≡ false
   unfolding markedBy
-  clear-before g h = marking-keeps marks (keyOf file (t .row)) (isNamed t) g h
+  clear-before g h = marking-keeps marks (keyOf file (t .row)) room (isNamed t) g h
 
   clear-here : (x : List ℤ) → mayHold (markedBy file marks t) (keyOf file x) ≡ false → (isRow (t .found) && (leadsComponent (t .row) && sameNames file (t .row) file x)) ≡ false
   unfolding markedBy isNamed
@@ -56,7 +55,7 @@ pub record Checking (file marks₀ marks : List ℕ) (w : Walk) (at : ℕ) (r : 
   pub numbered : 0 < w .line
   pub long : length marks ≡ length marks₀
 
-pub check-start : (file marks : List ℕ) (w : Walk) (r : Reply) → length file ≤ limit → looks < length marks → w ≡ begun → r ≡ reply 0 0 0 → Checking file marks marks w 0 r
+pub check-start : (file marks : List ℕ) (w : Walk) (r : Reply) → length file ≤ limit → 0 < length marks → w ≡ begun → r ≡ reply 0 0 0 → Checking file marks marks w 0 r
 check-start file marks w r h l e i = record {
   surveying = survey-start file w r h e i;
   asking = ask-start file w h e;

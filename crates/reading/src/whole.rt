@@ -14,7 +14,6 @@ ghost use Prim.Native.Nat.{_^_, _≤_, _<_};
 ghost use lib.ListN.{length};
 ghost use Rattle.records.specs.Answers.{limit, reply};
 ghost use Rattle.reading.specs.Replies.{countedBy, endedBy, checkReply, readReply, readRows, withinReply};
-ghost use Rattle.slots.specs.Looks.{looks};
 
 // A refusal without a count.
 fn refusal(number: u64, line: u64) -> Reply
@@ -56,7 +55,7 @@ fn ended(r: Reply, w: Walk) -> Reply
 
 // A file by all rules but size; `marks` are those of the names that came.
 fn walked(file: &[u8], marks: &mut [u16]) -> Reply
-    requires { ⌜ (length (now file) ≤ limit) × (looks < length (now marks)) ⌝ }
+    requires { ⌜ (length (now file) ≤ limit) × (0 < length (now marks)) ⌝ }
     ensures { λ r. ⌜ r ≡ withinReply (now (file .entry)) ⌝ }
 {
     let mut w = steps::begin();

@@ -1,5 +1,5 @@
 -- Laws of the hash, as its loop leaves them.
-use Prim.Native.Nat.{ℕ, _+_, _*_, _-_, _/_, _%_, _≤_, _<_}
+use Prim.Native.Nat.{ℕ, _+_, _*_, _-_, _%_, _≤_, _<_}
 use mathlib.Core.Path.{_≡_, refl, sym, ap, _∙_}
 use mathlib.Core.List.{List}
 use native.Mathlib.Omega.{arith}
@@ -8,7 +8,7 @@ use mir.Val.{Fits}
 use lib.ListN.{length, drop, getD}
 use Rattle.text.proofs.Lists.{at-cons, at-end}
 use Rattle.slots.specs.Looks.{looks}
-use Rattle.slots.specs.Hashes.{hashed, slotOf, markOf}
+use Rattle.slots.specs.Hashes.{hashed, slotOf}
 
 -- what is left of the bytes, behind those that gave n
 pub record Hashing (h : ℕ) (s : List ℕ) (n i : ℕ) : Type 0 where
@@ -36,7 +36,3 @@ module _ (h : ℕ) (s : List ℕ) (n i : ℕ) (a : Hashing h s n i) where
 pub slot-is : (h n : ℕ) → h % (n - looks) ≡ slotOf h n
 unfolding slotOf
 slot-is h n = refl
-
-pub mark-is : (h : ℕ) → h / 2_147_483_648 % 65_535 + 1 ≡ markOf h
-unfolding markOf
-mark-is h = refl

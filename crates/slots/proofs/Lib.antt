@@ -1,2 +1,3 @@
-pub mod SlotLaws
 pub mod HashLaws
+pub mod SlotLaws
+pub mod MarkLaws

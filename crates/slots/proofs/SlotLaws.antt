@@ -10,43 +10,39 @@ use lib.Dec.{eqb}
 use lib.ListN.{length, getD, set, length-set}
 use lib.Seq.{getD-set-same, getD-set-other}
 use Rattle.slots.specs.Looks.{looks}
-use Rattle.slots.specs.Hashes.{slotOf, markOf}
-use Rattle.slots.specs.Slots.{is, lookFrom, putFrom, mayHold, marked, placed, holds}
+use Rattle.slots.specs.Hashes.{slotOf}
+use Rattle.slots.specs.Slots.{lookFrom, putFrom, placed, holds}
 
 -- a look begins where all its slots are
 pub slot-room : (h n : ℕ) → looks < n → slotOf h n + looks ≤ n
 unfolding slotOf
 slot-room h n k = let l : h % (n - looks) < n - looks = mod-lt h (omega arith) in omega arith
 
-pub mark-some : (h : ℕ) → markOf h ≡ 0 → ⊥
-unfolding markOf
-mark-some h e = omega arith
-
 -- one more slot of a look that has gone through i
 
-module _ (end : Bool) (hit : ℕ → Bool) (xs : List ℕ) (from i : ℕ) (h : i < looks) where
-  look-one : lookFrom end (looks - i) hit xs (from + i)
-      ≡ cond (eqb (getD xs (from + i) 0) 0) false (cond (hit (getD xs (from + i) 0)) true (lookFrom end (looks - (i + 1)) hit xs (from + (i + 1))))
+module _ (hit : ℕ → Bool) (xs : List ℕ) (from i : ℕ) (h : i < looks) where
+  look-one : lookFrom (looks - i) hit xs (from + i)
+      ≡ cond (eqb (getD xs (from + i) 0) 0) false (cond (hit (getD xs (from + i) 0)) true (lookFrom (looks - (i + 1)) hit xs (from + (i + 1))))
   unfolding lookFrom
   look-one =
       let e : looks - i ≡ suc (looks - (i + 1)) = omega arith in
       let d : from + i + 1 ≡ from + (i + 1) = omega arith in
-      ap (λ (f : ℕ). lookFrom end f hit xs (from + i)) e
-      ∙ ap (λ (at : ℕ). cond (eqb (getD xs (from + i) 0) 0) false (cond (hit (getD xs (from + i) 0)) true (lookFrom end (looks - (i + 1)) hit xs at))) d
+      ap (λ (f : ℕ). lookFrom f hit xs (from + i)) e
+      ∙ ap (λ (at : ℕ). cond (eqb (getD xs (from + i) 0) 0) false (cond (hit (getD xs (from + i) 0)) true (lookFrom (looks - (i + 1)) hit xs at))) d
 
-  pub look-empty : getD xs (from + i) 0 ≡ 0 → lookFrom end (looks - i) hit xs (from + i) ≡ false
+  pub look-empty : getD xs (from + i) 0 ≡ 0 → lookFrom (looks - i) hit xs (from + i) ≡ false
   look-empty e = look-one ∙ rw (eq-eqb (getD xs (from + i) 0) 0 e)
 
   module _ (n : getD xs (from + i) 0 ≡ 0 → ⊥) where
-    pub look-hit : hit (getD xs (from + i) 0) ≡ true → lookFrom end (looks - i) hit xs (from + i) ≡ true
+    pub look-hit : hit (getD xs (from + i) 0) ≡ true → lookFrom (looks - i) hit xs (from + i) ≡ true
     look-hit e = look-one ∙ rw (ne-eqb (getD xs (from + i) 0) 0 n, e)
 
-    pub look-more : hit (getD xs (from + i) 0) ≡ false → lookFrom end (looks - i) hit xs (from + i) ≡ lookFrom end (looks - (i + 1)) hit xs (from + (i + 1))
+    pub look-more : hit (getD xs (from + i) 0) ≡ false → lookFrom (looks - i) hit xs (from + i) ≡ lookFrom (looks - (i + 1)) hit xs (from + (i + 1))
     look-more e = look-one ∙ rw (ne-eqb (getD xs (from + i) 0) 0 n, e)
 
-pub look-over : (end : Bool) (hit : ℕ → Bool) (xs : List ℕ) (from i : ℕ) → looks ≤ i → lookFrom end (looks - i) hit xs (from + i) ≡ end
+pub look-over : (hit : ℕ → Bool) (xs : List ℕ) (from i : ℕ) → looks ≤ i → lookFrom (looks - i) hit xs (from + i) ≡ false
 unfolding lookFrom
-look-over end hit xs from i h = let e : looks - i ≡ 0 = omega arith in ap (λ (f : ℕ). lookFrom end f hit xs (from + i)) e
+look-over hit xs from i h = let e : looks - i ≡ 0 = omega arith in ap (λ (f : ℕ). lookFrom f hit xs (from + i)) e
 
 module _ (xs : List ℕ) (from i m : ℕ) (h : i < looks) where
   put-one : putFrom (looks - i) xs (from + i) m
@@ -61,7 +57,6 @@ module _ (xs : List ℕ) (from i m : ℕ) (h : i < looks) where
 -- a loop that puts m: the slots are as they were, and what is left of its look is all of it
 pub record Putting (xs₀ xs : List ℕ) (from m i : ℕ) : Type 0 where
   pub kept : xs ≡ xs₀
-  pub looked : lookFrom true (looks - i) (is m) xs₀ (from + i) ≡ lookFrom true looks (is m) xs₀ from
   pub put : putFrom (looks - i) xs₀ (from + i) m ≡ putFrom looks xs₀ from m
   pub far : i ≤ looks
   pub room : from + looks ≤ length xs
@@ -71,7 +66,6 @@ putting-start xs from m h =
     let e : from + 0 ≡ from = omega arith in
     record {
       kept = refl;
-      looked = ap (lookFrom true looks (is m) xs) e;
       put = ap (λ (at : ℕ). putFrom looks xs at m) e;
       far = omega arith;
       room = h;
@@ -80,9 +74,6 @@ putting-start xs from m h =
 module _ (xs₀ xs : List ℕ) (from m i : ℕ) (p : Putting xs₀ xs from m i) where
   pub putting-length : length xs ≡ length xs₀
   putting-length = ap length (p .kept)
-
-  pub putting-over-look : looks ≤ i → true ≡ lookFrom true looks (is m) xs₀ from
-  putting-over-look h = sym (look-over true (is m) xs₀ from i h) ∙ p .looked
 
   pub putting-over : looks ≤ i → xs ≡ putFrom looks xs₀ from m
   unfolding putFrom
@@ -94,9 +85,6 @@ module _ (xs₀ xs : List ℕ) (from m i : ℕ) (p : Putting xs₀ xs from m i) 
 
     here : getD xs (from + i) 0 ≡ getD xs₀ (from + i) 0
     here = ap (λ (ys : List ℕ). getD ys (from + i) 0) (p .kept)
-
-    pub putting-empty-look : getD xs (from + i) 0 ≡ 0 → false ≡ lookFrom true looks (is m) xs₀ from
-    putting-empty-look e = sym (look-empty true (is m) xs₀ from i h (sym here ∙ e)) ∙ p .looked
 
     pub putting-empty : getD xs (from + i) 0 ≡ 0 → set xs (from + i) m ≡ putFrom looks xs₀ from m
     putting-empty e =
@@ -111,9 +99,6 @@ module _ (xs₀ xs : List ℕ) (from m i : ℕ) (p : Putting xs₀ xs from m i) 
       some : getD xs₀ (from + i) 0 ≡ 0 → ⊥
       some e = n (here ∙ e)
 
-      pub putting-here-look : getD xs (from + i) 0 ≡ m → true ≡ lookFrom true looks (is m) xs₀ from
-      putting-here-look e = sym (look-hit true (is m) xs₀ from i h some (eq-eqb (getD xs₀ (from + i) 0) m (sym here ∙ e))) ∙ p .looked
-
       pub putting-here : getD xs (from + i) 0 ≡ m → xs ≡ putFrom looks xs₀ from m
       putting-here e =
           p .kept
@@ -125,7 +110,6 @@ module _ (xs₀ xs : List ℕ) (from m i : ℕ) (p : Putting xs₀ xs from m i) 
           let q : eqb (getD xs₀ (from + i) 0) m ≡ false = ne-eqb (getD xs₀ (from + i) 0) m (λ e. d (here ∙ e)) in
           record {
             kept = p .kept;
-            looked = sym (look-more true (is m) xs₀ from i h some q) ∙ p .looked;
             put = sym (put-one xs₀ from i m h ∙ rw (ne-eqb (getD xs₀ (from + i) 0) 0 some, q)) ∙ p .put;
             far = omega arith;
             room = p .room;
@@ -143,66 +127,6 @@ put-length (suc f) xs at m = go (eqb (getD xs at 0) 0) (eqb (getD xs at 0) m) (p
     go false true e = refl
     go false false e = e
 
--- slots before the place stay
-put-before : (f : ℕ) (xs : List ℕ) (at m j : ℕ) → j < at → getD (putFrom f xs at m) j 0 ≡ getD xs j 0
-unfolding putFrom
-put-before zero xs at m j h = refl
-put-before (suc f) xs at m j h = go (eqb (getD xs at 0) 0) (eqb (getD xs at 0) m) (put-before f xs (at + 1) m j (omega arith))
-  where
-    go : (a b : Bool) → getD (putFrom f xs (at + 1) m) j 0 ≡ getD xs j 0
-        → getD (cond a (set xs at m) (cond b xs (putFrom f xs (at + 1) m))) j 0 ≡ getD xs j 0
-    go true b e = getD-set-other xs at j m 0 (λ e. omega arith)
-    go false true e = refl
-    go false false e = e
-
--- an empty slot that is filled ends no look
-set-keeps : (f : ℕ) (hit : ℕ → Bool) (xs : List ℕ) (at i v : ℕ) → getD xs i 0 ≡ 0 → lookFrom true f hit xs at ≡ true → lookFrom true f hit (set xs i v) at ≡ true
-unfolding lookFrom
-set-keeps zero hit xs at i v e h = refl
-set-keeps (suc f) hit xs at i v e h = go (eqb (getD xs at 0) 0) (hit (getD xs at 0)) refl refl (set-keeps f hit xs (at + 1) i v e) h
-  where
-    go : (a b : Bool) → eqb (getD xs at 0) 0 ≡ a → hit (getD xs at 0) ≡ b
-        → (lookFrom true f hit xs (at + 1) ≡ true → lookFrom true f hit (set xs i v) (at + 1) ≡ true)
-        → cond a false (cond b true (lookFrom true f hit xs (at + 1))) ≡ true
-        → lookFrom true (suc f) hit (set xs i v) at ≡ true
-    go true b p q ih k = absurd (false≢true k)
-    go false b p q ih k =
-        let o : getD (set xs i v) at 0 ≡ getD xs at 0 = getD-set-other xs i at v 0 (λ j. eqb-false (getD xs at 0) 0 p (ap (λ (z : ℕ). getD xs z 0) j ∙ e)) in
-        rw (o, p, q) (last b ih k)
-      where
-        last : (b : Bool) → (lookFrom true f hit xs (at + 1) ≡ true → lookFrom true f hit (set xs i v) (at + 1) ≡ true)
-            → cond b true (lookFrom true f hit xs (at + 1)) ≡ true → cond b true (lookFrom true f hit (set xs i v) (at + 1)) ≡ true
-        last true ih k = refl
-        last false ih k = ih k
-
-pub put-keeps : (g f : ℕ) (hit : ℕ → Bool) (xs : List ℕ) (at from m : ℕ) → lookFrom true f hit xs at ≡ true → lookFrom true f hit (putFrom g xs from m) at ≡ true
-unfolding putFrom
-put-keeps zero f hit xs at from m h = h
-put-keeps (suc g) f hit xs at from m h = go (eqb (getD xs from 0) 0) (eqb (getD xs from 0) m) refl (put-keeps g f hit xs at (from + 1) m h)
-  where
-    go : (a b : Bool) → eqb (getD xs from 0) 0 ≡ a → lookFrom true f hit (putFrom g xs (from + 1) m) at ≡ true
-        → lookFrom true f hit (cond a (set xs from m) (cond b xs (putFrom g xs (from + 1) m))) at ≡ true
-    go true b e k = set-keeps f hit xs at from m (eqb-true (getD xs from 0) 0 e) h
-    go false true e k = h
-    go false false e k = k
-
--- what was put is found
-pub put-found : (f : ℕ) (hit : ℕ → Bool) (xs : List ℕ) (at m : ℕ) → hit m ≡ true → (m ≡ 0 → ⊥) → at + f ≤ length xs → lookFrom true f hit (putFrom f xs at m) at ≡ true
-unfolding lookFrom putFrom
-put-found zero hit xs at m t n r = refl
-put-found (suc f) hit xs at m t n r = go (eqb (getD xs at 0) 0) (eqb (getD xs at 0) m) refl refl (put-found f hit xs (at + 1) m t n (omega arith))
-  where
-    go : (a b : Bool) → eqb (getD xs at 0) 0 ≡ a → eqb (getD xs at 0) m ≡ b
-        → lookFrom true f hit (putFrom f xs (at + 1) m) (at + 1) ≡ true
-        → lookFrom true (suc f) hit (cond a (set xs at m) (cond b xs (putFrom f xs (at + 1) m))) at ≡ true
-    go true b p q ih = rw (getD-set-same xs at m 0 (omega arith), ne-eqb m 0 n, t)
-    go false true p q ih = rw (eqb-true (getD xs at 0) m q, ne-eqb m 0 n, t)
-    go false false p q ih = rw (put-before f xs (at + 1) m at (omega arith), p, ih) (last (hit (getD xs at 0)))
-      where
-        last : (b : Bool) → cond b true true ≡ true
-        last true = refl
-        last false = refl
-
 -- every slot holds what it held or what was put
 pub put-holds : (T : ℕ → Type 0) (f : ℕ) (xs : List ℕ) (at m : ℕ) → at + f ≤ length xs → ((i : ℕ) → T (getD xs i 0)) → T m → (i : ℕ) → T (getD (putFrom f xs at m) i 0)
 unfolding putFrom
@@ -219,86 +143,30 @@ put-holds T (suc f) xs at m r all t i = go (eqb (getD xs at 0) 0) (eqb (getD xs 
     go false false h = h
 
 -- what is found for sure stands in some slot
-pub look-sound : (A : Type 0) (f : ℕ) (hit : ℕ → Bool) (xs : List ℕ) (at : ℕ) → ((i : ℕ) → hit (getD xs i 0) ≡ true → A) → lookFrom false f hit xs at ≡ true → A
+pub look-sound : (A : Type 0) (f : ℕ) (hit : ℕ → Bool) (xs : List ℕ) (at : ℕ) → ((i : ℕ) → hit (getD xs i 0) ≡ true → A) → lookFrom f hit xs at ≡ true → A
 unfolding lookFrom
 look-sound A zero hit xs at good h = absurd (false≢true h)
 look-sound A (suc f) hit xs at good h = go (eqb (getD xs at 0) 0) (hit (getD xs at 0)) refl (look-sound A f hit xs (at + 1) good) h
   where
-    go : (a b : Bool) → hit (getD xs at 0) ≡ b → (lookFrom false f hit xs (at + 1) ≡ true → A) → cond a false (cond b true (lookFrom false f hit xs (at + 1))) ≡ true → A
+    go : (a b : Bool) → hit (getD xs at 0) ≡ b → (lookFrom f hit xs (at + 1) ≡ true → A) → cond a false (cond b true (lookFrom f hit xs (at + 1))) ≡ true → A
     go true b e ih k = absurd (false≢true k)
     go false true e ih k = good at e
     go false false e ih k = ih k
 
--- marks and numbers, as the code puts them
+-- numbers, as the code puts them
 
 module _ (xs : List ℕ) (h from : ℕ) (e : from ≡ slotOf h (length xs)) where
   pub begun-room : looks < length xs → from + looks ≤ length xs
   begun-room k = rw e (slot-room h (length xs) k)
 
   module _ (m : ℕ) where
-    pub mark-held : (r : Bool) → m ≡ markOf h → r ≡ lookFrom true looks (is m) xs from → r ≡ mayHold xs h
-    unfolding mayHold
-    mark-held r i q = q ∙ rw (i, e)
-
     module _ (ys : List ℕ) (q : ys ≡ putFrom looks xs from m) where
       pub put-same-length : length ys ≡ length xs
       put-same-length = ap length q ∙ put-length looks xs from m
 
-      pub mark-put : m ≡ markOf h → ys ≡ marked xs h
-      unfolding marked
-      mark-put i = q ∙ rw (i, e)
-
       pub place-put : ys ≡ placed xs h m
       unfolding placed
       place-put = q ∙ rw e
-
--- marks by their hashes
-
-pub marked-length : (xs : List ℕ) (h : ℕ) → length (marked xs h) ≡ length xs
-unfolding marked
-marked-length xs h = put-length looks xs (slotOf h (length xs)) (markOf h)
-
-pub marked-held : (xs : List ℕ) (h : ℕ) → looks < length xs → mayHold (marked xs h) h ≡ true
-unfolding mayHold marked
-marked-held xs h k =
-    ap (λ (n : ℕ). lookFrom true looks (is (markOf h)) (marked xs h) (slotOf h n)) (marked-length xs h)
-    ∙ found
-  where
-    found : lookFrom true looks (is (markOf h)) (marked xs h) (slotOf h (length xs)) ≡ true
-    found = put-found looks (is (markOf h)) xs (slotOf h (length xs)) (markOf h) (eq-eqb (markOf h) (markOf h) refl) (mark-some h) (slot-room h (length xs) k)
-
-pub marked-keeps : (xs : List ℕ) (h g : ℕ) → mayHold xs g ≡ true → mayHold (marked xs h) g ≡ true
-unfolding mayHold marked
-marked-keeps xs h g e =
-    ap (λ (n : ℕ). lookFrom true looks (is (markOf g)) (marked xs h) (slotOf g n)) (marked-length xs h)
-    ∙ kept e
-  where
-    kept : lookFrom true looks (is (markOf g)) xs (slotOf g (length xs)) ≡ true → lookFrom true looks (is (markOf g)) (marked xs h) (slotOf g (length xs)) ≡ true
-    kept = put-keeps looks looks (is (markOf g)) xs (slotOf g (length xs)) (slotOf h (length xs)) (markOf h)
-
-pub marked-same-length : (xs ys : List ℕ) (h : ℕ) → ys ≡ marked xs h → length ys ≡ length xs
-marked-same-length xs ys h e = ap length e ∙ marked-length xs h
-
--- with a mark where a test passes
-module _ (xs : List ℕ) (h : ℕ) where
-  pub marking-length : (b : Bool) → length (cond b (marked xs h) xs) ≡ length xs
-  marking-length true = marked-length xs h
-  marking-length false = refl
-
-  -- what has no mark then had none before
-  pub marking-keeps : (b : Bool) (g : ℕ) → mayHold (cond b (marked xs h) xs) g ≡ false → mayHold xs g ≡ false
-  marking-keeps b g k = go b (mayHold xs g) refl k
-    where
-      go : (b c : Bool) → mayHold xs g ≡ c → mayHold (cond b (marked xs h) xs) g ≡ false → c ≡ false
-      go b false e k = refl
-      go false true e k = absurd (true≢false (sym e ∙ k))
-      go true true e k = absurd (true≢false (sym (marked-keeps xs h g e) ∙ k))
-
-  -- and what was marked has one
-  pub marking-here : looks < length xs → (b c : Bool) (g : ℕ) → (c ≡ true → h ≡ g) → mayHold (cond b (marked xs h) xs) g ≡ false → (b && c) ≡ false
-  marking-here r false c g e k = refl
-  marking-here r true false g e k = refl
-  marking-here r true true g e k = absurd (true≢false (sym (ap (mayHold (marked xs h)) (sym (e refl)) ∙ marked-held xs h r) ∙ k))
 
 -- numbers by their hashes
 

@@ -1,5 +1,5 @@
 -- A hash of bytes, and where its look begins.
-use Prim.Native.Nat.{ℕ, _+_, _*_, _-_, _/_, _%_}
+use Prim.Native.Nat.{ℕ, _+_, _*_, _-_, _%_}
 use mathlib.Core.List.{List, [], _∷_}
 use Rattle.slots.specs.Looks.{looks}
 
@@ -11,7 +11,3 @@ hashed h (b ∷ s) = hashed ((h % 1_099_511_627_689) * 11_400_715 + b) s
 -- among n slots, with room behind it for every look
 unfoldable pub slotOf : ℕ → ℕ → ℕ
 slotOf h n = h % (n - looks)
-
--- a mark is never 0, which is an empty slot
-unfoldable pub markOf : ℕ → ℕ
-markOf h = h / 2_147_483_648 % 65_535 + 1

@@ -1,3 +1,4 @@
 pub mod Looks
 pub mod Hashes
 pub mod Slots
+pub mod Marks

@@ -5,27 +5,17 @@ use mathlib.Core.Bool.{Bool, true, false, cond}
 use lib.Dec.{eqb}
 use lib.ListN.{length, getD, set}
 use Rattle.slots.specs.Looks.{looks}
-use Rattle.slots.specs.Hashes.{slotOf, markOf}
+use Rattle.slots.specs.Hashes.{slotOf}
 
-abbrev pub is : ℕ → ℕ → Bool
-is m x = eqb x m
-
--- whether a number that passes a test comes before an empty slot; `end` where there is neither in all slots looked at
-unfoldable pub lookFrom : Bool → ℕ → (ℕ → Bool) → List ℕ → ℕ → Bool
-lookFrom end zero hit xs at = end
-lookFrom end (suc f) hit xs at = cond (eqb (getD xs at 0) 0) false (cond (hit (getD xs at 0)) true (lookFrom end f hit xs (at + 1)))
+-- whether a number that passes a test comes before an empty slot
+unfoldable pub lookFrom : ℕ → (ℕ → Bool) → List ℕ → ℕ → Bool
+lookFrom zero hit xs at = false
+lookFrom (suc f) hit xs at = cond (eqb (getD xs at 0) 0) false (cond (hit (getD xs at 0)) true (lookFrom f hit xs (at + 1)))
 
 -- with m in the first empty slot, unless it comes before that or no slot is empty
 unfoldable pub putFrom : ℕ → List ℕ → ℕ → ℕ → List ℕ
 putFrom zero xs at m = xs
 putFrom (suc f) xs at m = cond (eqb (getD xs at 0) 0) (set xs at m) (cond (eqb (getD xs at 0) m) xs (putFrom f xs (at + 1) m))
-
--- a hash may have been marked
-unfoldable pub mayHold : List ℕ → ℕ → Bool
-mayHold xs h = lookFrom true looks (is (markOf h)) xs (slotOf h (length xs))
-
-unfoldable pub marked : List ℕ → ℕ → List ℕ
-marked xs h = putFrom looks xs (slotOf h (length xs)) (markOf h)
 
 -- a number placed by a hash
 unfoldable pub placed : List ℕ → ℕ → ℕ → List ℕ
@@ -33,4 +23,4 @@ placed xs h m = putFrom looks xs (slotOf h (length xs)) m
 
 -- a number that passes a test was placed by a hash, for sure
 unfoldable pub holds : (ℕ → Bool) → List ℕ → ℕ → Bool
-holds hit xs h = lookFrom false looks hit xs (slotOf h (length xs))
+holds hit xs h = lookFrom looks hit xs (slotOf h (length xs))

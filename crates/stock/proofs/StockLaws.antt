@@ -280,7 +280,7 @@ module _ (library places₀ places : List ℕ) (w : Walk) (at : ℕ) (s : Stocki
 -- a look for a placement
 pub record Looking (library places : List ℕ) (k : Bool) (board : List ℕ) (x : List ℤ) (h from i : ℕ) : Type 0 where
   pub key : h ≡ keyOf board x
-  pub left : lookFrom false (looks - i) (showsName library k board x) places (from + i) ≡ holds (showsName library k board x) places (keyOf board x)
+  pub left : lookFrom (looks - i) (showsName library k board x) places (from + i) ≡ holds (showsName library k board x) places (keyOf board x)
   pub far : i ≤ looks
   pub room : from + looks ≤ length places
 
@@ -292,33 +292,33 @@ look-start library places k board x h from l e i =
     let j : from ≡ slotOf (keyOf board x) (length places) = i ∙ ap (λ (g : ℕ). slotOf g (length places)) e in
     record {
       key = e;
-      left = ap (lookFrom false looks (showsName library k board x) places) (z ∙ j);
+      left = ap (lookFrom looks (showsName library k board x) places) (z ∙ j);
       far = omega arith;
       room = rw j (slot-room (keyOf board x) (length places) l);
     }
 
 module _ (library places : List ℕ) (k : Bool) (board : List ℕ) (x : List ℤ) (h from i : ℕ) (s : Looking library places k board x h from i) where
   pub look-none : looks ≤ i → false ≡ holds (showsName library k board x) places (keyOf board x)
-  look-none l = sym (look-over false (showsName library k board x) places from i l) ∙ s .left
+  look-none l = sym (look-over (showsName library k board x) places from i l) ∙ s .left
 
   module _ (l : i < looks) where
     pub look-within : from + i < length places
     look-within = let r = s .room in omega arith
 
     pub look-stop : getD places (from + i) 0 ≡ 0 → false ≡ holds (showsName library k board x) places (keyOf board x)
-    look-stop e = sym (look-empty false (showsName library k board x) places from i l e) ∙ s .left
+    look-stop e = sym (look-empty (showsName library k board x) places from i l e) ∙ s .left
 
     module _ (n : getD places (from + i) 0 ≡ 0 → ⊥) (b : Bool) (e : b ≡ showsBy library h k board x (getD places (from + i) 0)) where
       shown : showsName library k board x (getD places (from + i) 0) ≡ b
       shown = ap (λ (g : ℕ). showsBy library g k board x (getD places (from + i) 0)) (sym (s .key)) ∙ sym e
 
       pub look-found : b ≡ true → true ≡ holds (showsName library k board x) places (keyOf board x)
-      look-found j = sym (look-hit false (showsName library k board x) places from i l n (shown ∙ j)) ∙ s .left
+      look-found j = sym (look-hit (showsName library k board x) places from i l n (shown ∙ j)) ∙ s .left
 
       pub look-on : b ≡ false → Looking library places k board x h from (i + 1)
       look-on j = record {
         key = s .key;
-        left = sym (look-more false (showsName library k board x) places from i l n (shown ∙ j)) ∙ s .left;
+        left = sym (look-more (showsName library k board x) places from i l n (shown ∙ j)) ∙ s .left;
         far = omega arith;
         room = s .room;
       }

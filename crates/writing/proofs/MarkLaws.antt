@@ -7,9 +7,8 @@ use native.Mathlib.Omega.{arith}
 use borrow.Author.Tests.{not-true, not-false}
 use lib.IntN.{ℤ}
 use lib.ListN.{length, drop}
-use Rattle.slots.specs.Looks.{looks}
-use Rattle.slots.specs.Slots.{mayHold, marked}
-use Rattle.slots.proofs.SlotLaws.{marking-length, marking-keeps, marking-here}
+use Rattle.slots.specs.Marks.{mayHold, marked}
+use Rattle.slots.proofs.MarkLaws.{marking-length, marking-keeps, marking-here}
 use Rattle.naming.specs.Names.{leadsComponent, sameNames}
 use Rattle.naming.specs.Marks.{keyOf}
 use Rattle.naming.proofs.KeyLaws.{same-key}
@@ -40,7 +39,7 @@ module _ (bytes : List ℕ) (x : List ℤ) (marks : List ℕ) (a : Bool) (e : a 
       pub named-clear : Told bytes ys marks → m ≡ false → false ≡ (leadsComponent x && namedIn bytes x ys)
       named-clear t l = rw (sym e ∙ not-false a h) (sym (t .clear x (rw (sym i) (sym j ∙ l))))
 
-pub told-room : (bytes : List ℕ) (ys : List (List ℤ)) (marks : List ℕ) → Told bytes ys marks → looks < length marks
+pub told-room : (bytes : List ℕ) (ys : List (List ℤ)) (marks : List ℕ) → Told bytes ys marks → 0 < length marks
 told-room bytes ys marks t = t .room
 
 row-length : (bytes marks : List ℕ) (x : List ℤ) → length (markedRow bytes marks x) ≡ length marks
@@ -48,10 +47,10 @@ unfolding markedRow
 row-length bytes marks x = marking-length marks (keyOf bytes x) (leadsComponent x)
 
 -- one row more takes no mark away, and marks the name that it has
-module _ (bytes marks : List ℕ) (y : List ℤ) (room : looks < length marks) where
+module _ (bytes marks : List ℕ) (y : List ℤ) (room : 0 < length marks) where
   clear-before : (g : ℕ) → mayHold (markedRow bytes marks y) g ≡ false → mayHold marks g ≡ false
   unfolding markedRow
-  clear-before g h = marking-keeps marks (keyOf bytes y) (leadsComponent y) g h
+  clear-before g h = marking-keeps marks (keyOf bytes y) room (leadsComponent y) g h
 
   clear-here : (x : List ℤ) → mayHold (markedRow bytes marks y) (keyOf bytes x) ≡ false → namesIt bytes x y ≡ false
   unfolding markedRow namesIt
@@ -81,7 +80,7 @@ pub record Pairing (rows : List ℤ) (bytes marks₀ marks : List ℕ) (i : ℕ)
   pub told : Told bytes (drop i (wholeRows rows)) marks
   pub long : length marks ≡ length marks₀
 
-pub pair-start : (rows : List ℤ) (bytes marks : List ℕ) → looks < length marks → Pairing rows bytes marks marks (length rows / 10)
+pub pair-start : (rows : List ℤ) (bytes marks : List ℕ) → 0 < length marks → Pairing rows bytes marks marks (length rows / 10)
 unfolding twice namedIn
 pair-start rows bytes marks h =
     let e : drop (length rows / 10) (wholeRows rows) ≡ [] = row-none rows (length rows / 10) (omega arith) in

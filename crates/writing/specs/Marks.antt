@@ -5,8 +5,7 @@ use mathlib.Core.List.{List}
 use mathlib.Core.Bool.{false, cond}
 use lib.IntN.{ℤ}
 use lib.ListN.{length}
-use Rattle.slots.specs.Looks.{looks}
-use Rattle.slots.specs.Slots.{mayHold, marked}
+use Rattle.slots.specs.Marks.{mayHold, marked}
 use Rattle.naming.specs.Names.{leadsComponent}
 use Rattle.naming.specs.Marks.{keyOf}
 use Rattle.writing.specs.Writable.{namedIn}
@@ -17,5 +16,5 @@ markedRow bytes marks x = cond (leadsComponent x) (marked marks (keyOf bytes x))
 
 -- a name without a mark is named by none of the rows
 pub record Told (bytes : List ℕ) (rows : List (List ℤ)) (marks : List ℕ) : Type 0 where
-  pub room : looks < length marks
+  pub room : 0 < length marks
   pub clear : (x : List ℤ) → mayHold marks (keyOf bytes x) ≡ false → namedIn bytes x rows ≡ false

@@ -11,7 +11,6 @@ ghost use mathlib.Core.Path.{_≡_};
 ghost use mathlib.Core.Bool.{_&&_};
 ghost use Prim.Native.Nat.{_<_};
 ghost use lib.ListN.{length, drop};
-ghost use Rattle.slots.specs.Looks.{looks};
 ghost use Rattle.naming.specs.Names.{leadsComponent};
 ghost use Rattle.writing.specs.WholeRows.{wholeRows};
 ghost use Rattle.writing.specs.Writable.{namesIt, namedIn, twice};
@@ -52,7 +51,7 @@ fn names_again(rows: &[i64], bytes: &[u8], from: usize, x: [i64; WIDTH], marks: 
     if !leads_component(x) {
         return false;
     }
-    if slots::mark(marks, key(bytes, x)) {
+    if slots::marks::mark(marks, key(bytes, x)) {
         return named_from(rows, bytes, from, x);
     }
     false
@@ -60,7 +59,7 @@ fn names_again(rows: &[i64], bytes: &[u8], from: usize, x: [i64; WIDTH], marks: 
 
 // Whether two rows name one component, from the last row back; `marks` are those of the names behind.
 fn twice_by(rows: &[i64], bytes: &[u8], marks: &mut [u16]) -> bool
-    requires { ⌜ looks < length (now marks) ⌝ }
+    requires { ⌜ 0 < length (now marks) ⌝ }
     ensures { λ r. ⌜ r ≡ twice (now (bytes .entry)) (wholeRows (now (rows .entry))) ⌝ }
 {
     let mut i = rows.len() / WIDTH;

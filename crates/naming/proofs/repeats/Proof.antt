@@ -1,6 +1,6 @@
 -- `naming::repeats` meets its contract. Assumes nothing.
 use borrow.Author.Needs.{needs}
-use Rattle.slots.proofs.SlotLaws.{marked-same-length}
+use Rattle.slots.proofs.MarkLaws.{marked-same-length}
 use Rattle.naming.proofs.KeyLaws.{unnamed-repeats, unnamed-marks, named-marks, named-slow, named-clear, telling-room}
 use Rattle.naming.proofs.repeats.Statement.{statement}
 use Rattle.naming.proofs.repeats.Tie as tie

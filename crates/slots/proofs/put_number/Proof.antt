@@ -1,6 +1,6 @@
 -- `slots::put_number` meets its contract. Assumes nothing.
 use borrow.Author.Needs.{needs}
-use Rattle.slots.proofs.SlotLaws.{putting-start, putting-length, putting-over-look, putting-over, putting-within, putting-empty-look, putting-empty, putting-empty-length, putting-here-look, putting-here, putting-more, Putting}
+use Rattle.slots.proofs.SlotLaws.{putting-start, putting-length, putting-over, putting-within, putting-empty, putting-empty-length, putting-here, putting-more, Putting}
 use Prim.Native.Nat.{_-_}
 use Rattle.slots.specs.Looks.{looks}
 use Rattle.slots.proofs.put_number.Statement.{statement}
@@ -12,7 +12,7 @@ Inv-loop slots₀ from m i₀ slots i = Putting slots₀ slots from m i
 abbrev μ-loop : tie.MeasureT-loop
 μ-loop slots₀ from m i₀ slots i = looks - i
 
-ruleset laws = (putting-start, putting-length, putting-over-look, putting-over, putting-within, putting-empty-look, putting-empty, putting-empty-length, putting-here-look, putting-here, putting-more, needs)
+ruleset laws = (putting-start, putting-length, putting-over, putting-within, putting-empty, putting-empty-length, putting-here, putting-more, needs)
 
 loop-holds : tie.Need-loop-holds Inv-loop μ-loop
 loop-holds c = search laws

@@ -1,6 +1,6 @@
 -- `writing::names::names_again` meets its contract. Assumes nothing.
 use borrow.Author.Needs.{needs}
-use Rattle.slots.proofs.SlotLaws.{marked-same-length}
+use Rattle.slots.proofs.MarkLaws.{marked-same-length}
 use Rattle.writing.proofs.MarkLaws.{unnamed-again, unnamed-marks, named-marks, named-slow, named-clear, told-room}
 use Rattle.writing.proofs.names.names_again.Statement.{statement}
 use Rattle.writing.proofs.names.names_again.Tie as tie
