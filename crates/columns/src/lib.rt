@@ -182,10 +182,11 @@ fn fields_fit(c: Context, kind: u64, bytes: &[u8], row: [i64; WIDTH]) -> bool
 {
     let v = c.rules;
     let n = layouts::field_count(v, kind);
+    let layout = layouts::row_of(v, kind);
     let mut i = 0;
     let mut k = 1;
     while i < n {
-        let t = layouts::field_type(v, kind, i);
+        let t = layouts::type_in(v, kind, layout, i);
         if !column_fits(c, t, bytes, row, k) {
             return false;
         }

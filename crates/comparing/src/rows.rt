@@ -88,10 +88,11 @@ fn same_fields(
     ensures { λ r. ⌜ r ≡ sameFields g kind (now (first .entry)) x (now (second .entry)) y ⌝ }
 {
     let n = layouts::field_count(Rules::Idf3, kind);
+    let layout = layouts::row_of(Rules::Idf3, kind);
     let mut at = 1;
     let mut i = 0;
     while i < n {
-        let t = layouts::field_type(Rules::Idf3, kind, i);
+        let t = layouts::type_in(Rules::Idf3, kind, layout, i);
         if !agrees_at(g, kind, i, t, first, x, second, y, at) {
             return false;
         }

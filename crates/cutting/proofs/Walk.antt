@@ -1,6 +1,6 @@
 -- A loop that passes the fields of a line one by one, by calls of `field` on the part that is left.
 use Prim.Native.Nat.{ℕ, zero, suc, pred, _+_, _-_, _≤_, _<_}
-use mathlib.Core.Path.{_≡_, refl, sym, ap, subst, _∙_}
+use mathlib.Core.Path.{_≡_, refl, sym, subst, _∙_}
 use mathlib.Core.List.{List, [], _∷_, _++_, append-assoc, append-nil}
 use mathlib.Core.Option.{Option, none, some}
 use mathlib.Core.Bool.{Bool}
@@ -28,10 +28,6 @@ behind-nil (some gs) = refl
 behind-before : (fs : List Field) (f : Field) (r : Option (List Field)) → behind fs (before f r) ≡ behind (fs ++ (f ∷ [])) r
 behind-before fs f none = refl
 behind-before fs f (some gs) = simp append-assoc
-
-behind-longer : (fs gs : List Field) (r : Option (List Field)) → behind fs r ≡ some gs → length fs ≤ length gs
-behind-longer fs gs none e = let z : _≡_ {A = ℕ} 0 1 = cc in absurd (omega arith)
-behind-longer fs gs (some hs) e = let h : fs ++ hs ≡ gs = cc in omega (arith, ap length h, length-append fs hs)
 
 -- one turn, where any fuel is left
 fields-step : (fuel : ℕ) (s : List ℕ) → 0 < fuel → fieldsIn fuel s ≡ fieldsBy (fieldOf s) s (λ n. fieldsIn (pred fuel) (drop n s))
@@ -84,9 +80,3 @@ module _ {line : List ℕ} {at : ℕ} {done : List Field} {r : FieldAnswer} (w :
           enough = omega arith;
           left = left-next;
         }
-
-    pub walk-more : (fs : List Field) → fieldsOf line ≡ some fs → length done < length fs
-    walk-more fs k =
-        let f = field q (take l (drop (at + a) line)) in
-        let g = behind-longer (done ++ (f ∷ [])) fs (fieldsIn (pred (w .fuel)) (drop (at + m) line)) (sym left-next ∙ k) in
-        omega (arith, length-append done (f ∷ []))

@@ -58,8 +58,6 @@ use Rattle.layouts.proofs.row_of.Kinds as layouts-row-of
 use Rattle.layouts.proofs.row_of.Reads as layouts-row-of-says
 use Rattle.layouts.proofs.type_in.Kinds as layouts-type-in
 use Rattle.layouts.proofs.type_in.Reads as layouts-type-in-says
-use Rattle.layouts.proofs.field_type.Kinds as layouts-field-type
-use Rattle.layouts.proofs.field_type.Reads as layouts-field-type-says
 use Rattle.words.proofs.place_of.Kinds as words-place-of
 use Rattle.words.proofs.place_of.Reads as words-place-of-says
 use Rattle.words.proofs.word_row.Kinds as words-word-row
@@ -178,9 +176,6 @@ tight-layouts-row-of κs a r q ws us e f = (e ∙ sym f, refl)
 
 pub tight-layouts-type-in : Tight 0 layouts-type-in.ps layouts-type-in.r layouts-type-in-says.Learnt
 tight-layouts-type-in κs a r q ws us e f = (e ∙ sym f, refl)
-
-pub tight-layouts-field-type : Tight 0 layouts-field-type.ps layouts-field-type.r layouts-field-type-says.Learnt
-tight-layouts-field-type κs a r q ws us e f = (e ∙ sym f, refl)
 
 -- `words`
 

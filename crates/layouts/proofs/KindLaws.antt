@@ -1,5 +1,5 @@
 -- Laws of kinds and of the table of layouts.
-use Prim.Native.Nat.{ℕ, zero, suc, _+_, _*_, _-_, _≤_, _<_}
+use Prim.Native.Nat.{ℕ, zero, suc, _+_, _/_, _-_, _≤_, _<_}
 use mir.Syntax.{w64}
 use mir.Val.{Fits}
 use mathlib.Core.Path.{_≡_, refl, sym, _∙_}
@@ -26,9 +26,9 @@ use Rattle.form.specs.declared.Rules.{Rules}
 use Rattle.form.specs.declared.Rules.the-variants.{Idf3}
 
 -- ten kinds to a section, and none above
-pub in-section : (v : Rules) (s k : ℕ) → 10 * s ≤ k → k ≤ 10 * s + 9 → s ≤ 15 → s ≡ sectionOf v k
+pub in-section : (v : Rules) (k : ℕ) → k ≤ 159 → k / 10 ≡ sectionOf v k
 unfolding sectionOf
-in-section Idf3 s k h l m = rw (le-leb k 159 (omega arith)) (omega arith)
+in-section Idf3 k h = rw (le-leb k 159 h)
 
 pub no-section : (v : Rules) (k : ℕ) → 159 < k → 0 ≡ sectionOf v k
 unfolding sectionOf

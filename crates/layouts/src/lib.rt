@@ -50,24 +50,7 @@ pub fn section_of(v: Rules, kind: u64) -> u64
     ensures { λ r. ⌜ r ≡ sectionOf v kind ⌝ }
 {
     match v {
-        Rules::Idf3 => match kind {
-            10..=19 => 1,
-            20..=29 => 2,
-            30..=39 => 3,
-            40..=49 => 4,
-            50..=59 => 5,
-            60..=69 => 6,
-            70..=79 => 7,
-            80..=89 => 8,
-            90..=99 => 9,
-            100..=109 => 10,
-            110..=119 => 11,
-            120..=129 => 12,
-            130..=139 => 13,
-            140..=149 => 14,
-            150..=159 => 15,
-            _ => 0,
-        },
+        Rules::Idf3 => { if kind <= 159 { kind / 10 } else { 0 } }
     }
 }
 
@@ -262,12 +245,4 @@ pub fn type_in(v: Rules, kind: u64, row: [u8; 9], i: usize) -> FieldType
     ensures { λ r. ⌜ r ≡ typeAt (typesOf v kind) i ⌝ }
 {
     type_of(row[i + 2])
-}
-
-// The type of a field of a line of a kind, fields counted from 0.
-pub fn field_type(v: Rules, kind: u64, i: usize) -> FieldType
-    requires { ⌜ i < length (typesOf v kind) ⌝ }
-    ensures { λ r. ⌜ r ≡ typeAt (typesOf v kind) i ⌝ }
-{
-    type_in(v, kind, row_of(v, kind), i)
 }

@@ -204,9 +204,6 @@ pub count-start : (n : ℕ) → n ≤ largestLength → Counting n n 1
 count-start n h = record { k = 10; few = omega arith; small = omega arith; is = omega arith }
 
 module _ {n m len : ℕ} (i : Counting n m len) where
-  pub count-few : len ≤ 11
-  count-few = omega (arith, i .few)
-
   pub count-more : 10 ≤ m → Counting n (m / 10) (len + 1)
   count-more h = go (i .k) (i .few) (i .small) (i .is)
     where

@@ -75,11 +75,12 @@ fn with_fields(sum: usize, v: Rules, kind: u64, bytes: &[u8], row: [i64; WIDTH])
     ensures { λ r. ⌜ r ≡ upTo (sum + length (fieldsText v (now (bytes .entry)) row (typesOf v kind) 1)) ⌝ }
 {
     let n = layouts::field_count(v, kind);
+    let layout = layouts::row_of(v, kind);
     let mut len = sum;
     let mut i = 0;
     let mut k = 1;
     while i < n {
-        let t = layouts::field_type(v, kind, i);
+        let t = layouts::type_in(v, kind, layout, i);
         len = with_column(len, v, t, bytes, row, k);
         k += layouts::width_of(t);
         i += 1;
@@ -111,11 +112,12 @@ fn put_fields(
     ensures { λ r. ⌜ Wrote (now (out .entry)) (now (out .exit)) at r (fieldsText v (now (bytes .entry)) row (typesOf v kind) 1) ⌝ }
 {
     let n = layouts::field_count(v, kind);
+    let layout = layouts::row_of(v, kind);
     let mut e = at;
     let mut i = 0;
     let mut k = 1;
     while i < n {
-        let t = layouts::field_type(v, kind, i);
+        let t = layouts::type_in(v, kind, layout, i);
         e = put_column(out, e, v, t, bytes, row, k, n - i - 1);
         k += layouts::width_of(t);
         i += 1;

@@ -120,14 +120,8 @@ module _ (s : List ℕ) (r : LineEnd) (e : r ≡ lineEnd s) where
   here : Inside s r
   here = rw e (line-inside s)
 
-  pub end-inside : r .content ≤ r .next
-  end-inside = here .inside
-
   pub end-within : r .next ≤ length s
   end-within = here .within
-
-  pub end-past : 0 < length s → 0 < r .next
-  end-past h = here .past h
 
 -- fuel of at least a file's length gives all its lines
 enough : (f g : ℕ) (s : List ℕ) → length s ≤ f → length s ≤ g → linesIn f s ≡ linesIn g s

@@ -100,9 +100,6 @@ pub going-start : (file : List ℕ) (w : Walk) → length file ≤ limit → w �
 going-start file w h e = rw e (record { steady = record { small = h; within = omega arith; lines = omega arith; section = omega arith }; here = refl })
 
 module _ (file : List ℕ) (w : Walk) (at : ℕ) (g : Going file w at) where
-  pub going-steady : Steady file w
-  going-steady = g .steady
-
   module _ (h : at < length file) (t : Turn) (e : t ≡ turnOf file w) where
     -- each line is followed by what is left
     pub going-trace : traceAt file w ≡ traceBy (t .found) (w .line) (t .row) (traceAt file (t .walk))

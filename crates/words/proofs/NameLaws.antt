@@ -14,10 +14,11 @@ use lib.ListN.{length, take, drop, getD}
 use lib.Seq.{drop-cons}
 use Rattle.text.specs.Bytes.{ascii, begins}
 use Rattle.text.proofs.Lists.{rest, and-left}
+use Rattle.text.proofs.Tables.{allBelow, below-all}
 use Rattle.form.specs.Names.{wordsOf, propWord, sectionNames, endWord}
 use Rattle.form.specs.Compare.{sameBytes, wordKey, sameWord, up, placeOf, isSmall, capital, folded}
 use Rattle.form.specs.Reading.{keyFrom, keyBy, keywordOf}
-use Rattle.words.specs.Padded.{trimmed, matched, found, rowTable, sought, spanOf, endsName, closingBy, closingOf}
+use Rattle.words.specs.Padded.{keyed, headOf, trimmed, matched, found, rowTable, sought, spanOf, endsName, closingBy, closingOf}
 use Rattle.words.specs.declared.Found.{Found}
 use Rattle.words.specs.declared.Found.the-variants.{At, Nowhere}
 use Rattle.form.specs.declared.Keyword.{Keyword}
@@ -27,7 +28,7 @@ use Rattle.form.specs.declared.Rules.{Rules}
 use Rattle.form.specs.declared.Rules.the-variants.{Idf3}
 use Rattle.form.specs.declared.Words.{Words}
 use Rattle.form.specs.declared.Words.the-variants.{FileTypes, Units, Owners, Faces, Sides, Layers, Plates, Statuses}
-use Rattle.words.proofs.PaddedLaws.{key-folds, key-stays, matched-is}
+use Rattle.words.proofs.PaddedLaws.{key-folds, key-stays, matched-is, lettered, matched-other}
 
 eqb-sym : (a b : ℕ) → eqb a b ≡ eqb b a
 eqb-sym a b = go (eqb a b) refl
@@ -47,10 +48,10 @@ module _ (t : List (List ℕ)) (f n i : ℕ) (h : f + n ≤ length t) where
 
   -- a loop that seeks bytes among them, of which the whole says g
   module _ (fold : Bool) (s : List ℕ) {g : Found} (inv : sought fold i (take (n - i) (drop (f + i) t)) s ≡ g) where
-    module _ (k : i < n) (row : List ℕ) (e : row ≡ getD t (f + i) []) (r : Bool) (m : r ≡ matched fold row s) where
+    module _ (k : i < n) (r : Bool) (m : r ≡ matched fold (getD t (f + i) []) s) where
       here : sought fold i (take (n - i) (drop (f + i) t)) s ≡ cond r (At i) (sought fold (i + 1) (take (n - (i + 1)) (drop (f + (i + 1)) t)) s)
       unfolding sought
-      here = rw (rows-here k, ← e, ← m, add-one i)
+      here = rw (rows-here k, ← m, add-one i)
 
       pub seek-found : r ≡ true → At i ≡ g
       seek-found q = sym (rw q at here) ∙ inv
@@ -61,6 +62,36 @@ module _ (t : List (List ℕ)) (f n i : ℕ) (h : f + n ≤ length t) where
     pub seek-over : n ≤ i → Nowhere ≡ g
     unfolding sought
     seek-over k = let z : n - i ≡ 0 = omega arith in let e : sought fold i (take (n - i) (drop (f + i) t)) s ≡ Nowhere = rw z in sym e ∙ inv
+
+-- every row of the table holds a word
+table-lettered : allBelow 39 (λ i. lettered (getD rowTable i [])) ≡ true
+unfolding rowTable
+table-lettered = refl
+
+pub initial-is : (i : ℕ) (row : List ℕ) → row ≡ getD rowTable i [] → getD row 0 0 ≡ getD (getD rowTable i []) 0 0
+initial-is i row e = rw e
+
+module _ (i b : ℕ) (s : List ℕ) (fold : Bool) (e : b ≡ headOf fold s) where
+  pub row-other : (c : ℕ) → i < 39 → c ≡ getD (getD rowTable i []) 0 0 → (c ≡ b → ⊥) → false ≡ matched fold (getD rowTable i []) s
+  row-other c k h n = sym (matched-other fold (getD rowTable i []) s (below-all 39 (λ j. lettered (getD rowTable j [])) table-lettered i k) (λ q. n (h ∙ q ∙ sym e)))
+
+  pub row-by : (row : List ℕ) (r : Bool) → row ≡ getD rowTable i [] → r ≡ matched fold row s → r ≡ matched fold (getD rowTable i []) s
+  row-by row r h q = q ∙ ap (λ (x : List ℕ). matched fold x s) h
+
+module _ (s : List ℕ) (fold : Bool) where
+  pub head-none : length s ≡ 0 → 0 ≡ headOf fold s
+  head-none h = go s h
+    where
+      go : (s : List ℕ) → length s ≡ 0 → 0 ≡ headOf fold s
+      go [] h = refl
+      go (b ∷ s) h = absurd (omega arith)
+
+  pub head-is : (c : ℕ) → (length s ≡ 0 → ⊥) → c ≡ keyed fold (getD s 0 0) → c ≡ headOf fold s
+  head-is c n h = h ∙ go s n
+    where
+      go : (s : List ℕ) → (length s ≡ 0 → ⊥) → keyed fold (getD s 0 0) ≡ headOf fold s
+      go [] n = absurd (n refl)
+      go (b ∷ s) n = refl
 
 pub seek-start : (t : List (List ℕ)) (f n : ℕ) (fold : Bool) (s : List ℕ) → sought fold 0 (take (n - 0) (drop (f + 0) t)) s ≡ sought fold 0 (take n (drop f t)) s
 seek-start t f n fold s = let a : n - 0 ≡ n = omega arith in let b : f + 0 ≡ f = omega arith in rw (a, b)

@@ -4,11 +4,12 @@ use mathlib.Core.Path.{_≡_, refl, sym, ap, _∙_}
 use mathlib.Core.List.{List, [], _∷_}
 use mathlib.Core.Bool.{Bool, true, false, cond, not, _&&_, _||_, true≢false, false≢true}
 use native.Mathlib.Omega.{arith}
+use borrow.Author.Tests.{ne-eqb, not-true}
 use lib.Dec.{eqb}
 use lib.ListN.{length, drop, getD}
 use Rattle.text.proofs.Lists.{at-cons, at-end}
 use Rattle.form.specs.Compare.{sameBytes, folded}
-use Rattle.words.specs.Padded.{keyed, trimmed, matched}
+use Rattle.words.specs.Padded.{keyed, headOf, trimmed, matched}
 
 -- more bytes than the row has are not the row's
 pub matched-long : (fold : Bool) (row s : List ℕ) → length row < length s → matched fold row s ≡ false
@@ -22,6 +23,22 @@ matched-long fold (r ∷ row) (b ∷ s) h = go (not (eqb r 32)) (eqb r (keyed fo
     go true true e = e
     go true false e = refl
     go false y e = refl
+
+-- a row that holds a word
+abbrev pub lettered : List ℕ → Bool
+lettered [] = false
+lettered (r ∷ row) = not (eqb r 32)
+
+-- bytes that begin otherwise than the row are not the row's
+pub matched-other : (fold : Bool) (row s : List ℕ) → lettered row ≡ true → (getD row 0 0 ≡ headOf fold s → ⊥) → matched fold row s ≡ false
+unfolding matched
+matched-other fold [] s k n = absurd (false≢true k)
+matched-other fold (r ∷ row) [] k n = not-true (eqb r 32) k
+matched-other fold (r ∷ row) (b ∷ s) k n = rw (ne-eqb r (keyed fold b) n) (go (not (eqb r 32)))
+  where
+    go : (x : Bool) → x && false ≡ false
+    go true = refl
+    go false = refl
 
 differ : (x y m : Bool) → x || not y ≡ true → not x && (y && m) ≡ false
 differ true y m h = refl

@@ -51,12 +51,6 @@ module _ (s : ℕ) (r : List ℕ) where
   unfolding nameRow
   name-there n h i = rw (ne-eqb s 0 n, le-ltb 15 s h) i
 
-pub name-some : (s : ℕ) → (s ≡ 0 → ⊥) → 1 ≤ s
-name-some s n = omega arith
-
-pub name-few : (s : ℕ) → (s ≡ 0 → ⊥) → s ≤ 15 → s - 1 < 39
-name-few s n h = omega arith
-
 -- What they hold
 
 word-past : (ws : List (List ℕ)) (n : ℕ) → length ws ≤ n → wordAt ws n ≡ []

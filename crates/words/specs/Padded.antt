@@ -34,6 +34,11 @@ matched fold [] (b ∷ s) = false
 matched fold (r ∷ row) [] = eqb r 32
 matched fold (r ∷ row) (b ∷ s) = not (eqb r 32) && (eqb r (keyed fold b) && matched fold row s)
 
+-- the first byte as it is compared, 0 where there is none
+abbrev pub headOf : Bool → List ℕ → ℕ
+headOf fold [] = 0
+headOf fold (b ∷ s) = keyed fold b
+
 abbrev pub found : Option ℕ → Found
 found none = Nowhere
 found (some n) = At n

@@ -6,12 +6,13 @@ use form::Rules;
 use form::Words;
 ghost use mathlib.Core.Path.{_≡_};
 ghost use mathlib.Core.Bool.{true, false};
+ghost use mathlib.Core.List.{[]};
 ghost use Prim.Native.Nat.{_+_, _≤_, _<_};
-ghost use lib.ListN.{take, drop};
+ghost use lib.ListN.{getD, take, drop};
 ghost use Rattle.form.specs.Compare.{capital, folded, placeOf, sameWord};
 ghost use Rattle.form.specs.Names.{propWord, wordsOf};
 ghost use Rattle.form.specs.Reading.{keywordOf};
-ghost use Rattle.words.specs.Padded.{keyed, matched, rowTable, sought, found, spanOf, blankRow, wordRow, nameRow, endsName, closingOf};
+ghost use Rattle.words.specs.Padded.{keyed, matched, headOf, rowTable, sought, found, spanOf, blankRow, wordRow, nameRow, endsName, closingOf};
 
 // The place of a word in its list, from 0.
 pub enum Found {
@@ -60,14 +61,36 @@ fn matches(row: [u8; 16], s: &[u8], fold: bool) -> bool
     row[i] == 32
 }
 
+// The first byte as it is compared, 0 where there is none.
+fn head(s: &[u8], fold: bool) -> u8
+    ensures { λ r. ⌜ r ≡ headOf fold (now (s .entry)) ⌝ }
+{
+    if s.len() == 0 {
+        return 0;
+    }
+    letter(s[0], fold)
+}
+
+// Whether bytes are those of a row of the table; b is the first of them, which tells most rows apart.
+fn is_row(i: usize, b: u8, s: &[u8], fold: bool) -> bool
+    requires { ⌜ (i < 39) × (b ≡ headOf fold (now s)) ⌝ }
+    ensures { λ r. ⌜ r ≡ matched fold (getD rowTable i []) (now (s .entry)) ⌝ }
+{
+    if rows::initial_at(i) != b {
+        return false;
+    }
+    matches(rows::row_at(i), s, fold)
+}
+
 // The place from 0 of the bytes among some rows of the table.
 fn seek(first: usize, count: usize, s: &[u8], fold: bool) -> Found
     requires { ⌜ first + count ≤ 39 ⌝ }
     ensures { λ r. ⌜ r ≡ sought fold 0 (take count (drop first rowTable)) (now (s .entry)) ⌝ }
 {
+    let b = head(s, fold);
     let mut i = 0;
     while i < count {
-        if matches(rows::row_at(first + i), s, fold) {
+        if is_row(first + i, b, s, fold) {
             return Found::At(i as u64);
         }
         i += 1;

@@ -117,3 +117,12 @@ pub(crate) fn row_at(i: usize) -> [u8; 16]
         _ => ECAD,
     }
 }
+
+// The first byte of a row of the table.
+pub(crate) fn initial_at(i: usize) -> u8
+    requires { ⌜ i < 39 ⌝ }
+    ensures { λ r. ⌜ r ≡ getD (getD rowTable i []) 0 0 ⌝ }
+{
+    let row = row_at(i);
+    row[0]
+}

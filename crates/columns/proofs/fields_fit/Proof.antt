@@ -1,26 +1,31 @@
 -- `columns::fields_fit` meets its contract. Assumes nothing.
 use Prim.Native.Nat.{_-_}
+use mathlib.Core.Path.{_≡_}
+use Rattle.layouts.specs.Letters.{rowOf}
 use borrow.Author.Needs.{needs}
 use Rattle.columns.proofs.FitLaws.{Fitting, fit-start, fit-few, fit-over, fit-type, fit-not, fit-more, fit-fits}
 use Rattle.columns.proofs.fields_fit.Statement.{statement}
 use Rattle.columns.proofs.fields_fit.Tie as tie
 
 abbrev Inv-loop : tie.InvT-loop
-Inv-loop c kind bytes row v n i₀ k₀ i k = Fitting c kind bytes row n i k
+Inv-loop c kind bytes row v n layout i₀ k₀ i k = Fitting c kind bytes row n i k × (layout ≡ rowOf (c .rules) kind)
 
 abbrev μ-loop : tie.MeasureT-loop
-μ-loop c kind bytes row v n i₀ k₀ i k = n - i
+μ-loop c kind bytes row v n layout i₀ k₀ i k = n - i
 
 ruleset laws = (fit-start, fit-few, fit-over, fit-type, fit-not, fit-more, fit-fits, needs)
 
 field-count-requires : tie.Need-field-count-requires Inv-loop μ-loop
 field-count-requires c κs = search laws
 
+row-of-requires : tie.Need-row-of-requires Inv-loop μ-loop
+row-of-requires c κs = search laws
+
 loop-holds : tie.Need-loop-holds Inv-loop μ-loop
 loop-holds c = search laws
 
-field-type-requires : tie.Need-field-type-requires Inv-loop μ-loop
-field-type-requires c κs = search laws
+type-in-requires : tie.Need-type-in-requires Inv-loop μ-loop
+type-in-requires c κs = search laws
 
 column-fits-requires : tie.Need-column-fits-requires Inv-loop μ-loop
 column-fits-requires c κs = search laws
@@ -52,4 +57,4 @@ returns-2 c = search laws
 pub fields-fit-spec : {M : Type 1} → statement M
 fields-fit-spec =
     tie.close
-    (tie.spec Inv-loop μ-loop field-count-requires loop-holds field-type-requires column-fits-requires returns width-of-requires add-k add-i loop-less loop-again is-zero-from-requires returns-2)
+    (tie.spec Inv-loop μ-loop field-count-requires row-of-requires loop-holds type-in-requires column-fits-requires returns width-of-requires add-k add-i loop-less loop-again is-zero-from-requires returns-2)

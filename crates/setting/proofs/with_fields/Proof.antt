@@ -1,26 +1,31 @@
 -- `setting::with_fields` meets its contract. Assumes nothing.
 use Prim.Native.Nat.{_-_}
+use mathlib.Core.Path.{_≡_}
+use Rattle.layouts.specs.Letters.{rowOf}
 use Rattle.setting.proofs.WholeLaws.{Summing, sum-start, sum-over, sum-few, sum-small, sum-type, sum-fits, sum-add, sum-more}
 use borrow.Author.Needs.{needs}
 use Rattle.setting.proofs.with_fields.Statement.{statement}
 use Rattle.setting.proofs.with_fields.Tie as tie
 
 abbrev Inv-loop : tie.InvT-loop
-Inv-loop sum v kind bytes row n len₀ i₀ k₀ len i k = Summing v bytes row sum kind n len i k
+Inv-loop sum v kind bytes row n layout len₀ i₀ k₀ len i k = Summing v bytes row sum kind n len i k × (layout ≡ rowOf v kind)
 
 abbrev μ-loop : tie.MeasureT-loop
-μ-loop sum v kind bytes row n len₀ i₀ k₀ len i k = n - i
+μ-loop sum v kind bytes row n layout len₀ i₀ k₀ len i k = n - i
 
 ruleset laws = (sum-start, sum-over, sum-few, sum-small, sum-type, sum-fits, sum-add, sum-more, needs)
 
 field-count-requires : tie.Need-field-count-requires Inv-loop μ-loop
 field-count-requires c κs = search laws
 
+row-of-requires : tie.Need-row-of-requires Inv-loop μ-loop
+row-of-requires c κs = search laws
+
 loop-holds : tie.Need-loop-holds Inv-loop μ-loop
 loop-holds c = search laws
 
-field-type-requires : tie.Need-field-type-requires Inv-loop μ-loop
-field-type-requires c κs = search laws
+type-in-requires : tie.Need-type-in-requires Inv-loop μ-loop
+type-in-requires c κs = search laws
 
 with-column-requires : tie.Need-with-column-requires Inv-loop μ-loop
 with-column-requires c κs = search laws
@@ -46,4 +51,4 @@ returns c = search laws
 pub with-fields-spec : {M : Type 1} → statement M
 with-fields-spec =
     tie.close
-    (tie.spec Inv-loop μ-loop field-count-requires loop-holds field-type-requires with-column-requires width-of-requires add-k add-i loop-less loop-again returns)
+    (tie.spec Inv-loop μ-loop field-count-requires row-of-requires loop-holds type-in-requires with-column-requires width-of-requires add-k add-i loop-less loop-again returns)

@@ -1,18 +1,18 @@
 -- `words::seek` meets its contract: no row passed matches. Assumes nothing.
+use borrow.Author.Needs.{needs}
+use Rattle.words.proofs.NameLaws.{seek-start, seek-found, seek-more, seek-over}
 use Prim.Native.Nat.{ℕ, _+_, _-_, _≤_}
 use mathlib.Core.Path.{_≡_}
-use borrow.Author.Needs.{needs}
 use lib.ListN.{length, take, drop}
-use Rattle.words.specs.Padded.{rowTable, sought}
-use Rattle.words.proofs.NameLaws.{seek-start, seek-found, seek-more, seek-over}
+use Rattle.words.specs.Padded.{headOf, rowTable, sought}
 use Rattle.words.proofs.seek.Statement.{statement}
 use Rattle.words.proofs.seek.Tie as tie
 
 abbrev Inv-loop : tie.InvT-loop
-Inv-loop first count s fold i₀ i = (i ≤ count) × (first + count ≤ length rowTable) × (sought fold i (take (count - i) (drop (first + i) rowTable)) s ≡ sought fold 0 (take count (drop first rowTable)) s)
+Inv-loop first count s fold b i₀ i = (i ≤ count) × (first + count ≤ length rowTable) × (b ≡ headOf fold s) × (sought fold i (take (count - i) (drop (first + i) rowTable)) s ≡ sought fold 0 (take count (drop first rowTable)) s)
 
 abbrev μ-loop : tie.MeasureT-loop
-μ-loop first count s fold i₀ i = count - i
+μ-loop first count s fold b i₀ i = count - i
 
 room : (f n : ℕ) → f + n ≤ 39 → f + n ≤ length rowTable
 unfolding rowTable
@@ -20,17 +20,17 @@ room f n h = h
 
 ruleset laws = (room, seek-start, seek-found, seek-more, seek-over, needs)
 
+head-requires : tie.Need-head-requires Inv-loop μ-loop
+head-requires c κs = search laws
+
 loop-holds : tie.Need-loop-holds Inv-loop μ-loop
 loop-holds c = search laws
 
-add-row-at : tie.Need-add-row-at Inv-loop μ-loop
-add-row-at c = search laws
+add-is-row : tie.Need-add-is-row Inv-loop μ-loop
+add-is-row c = search laws
 
-row-at-requires : tie.Need-row-at-requires Inv-loop μ-loop
-row-at-requires c κs = search laws
-
-matches-requires : tie.Need-matches-requires Inv-loop μ-loop
-matches-requires c κs = search laws
+is-row-requires : tie.Need-is-row-requires Inv-loop μ-loop
+is-row-requires c κs = search laws
 
 returns : tie.Need-returns Inv-loop μ-loop
 returns c = search laws
@@ -50,4 +50,4 @@ returns-2 c = search laws
 pub seek-spec : {M : Type 1} → statement M
 seek-spec =
     tie.close
-    (tie.spec Inv-loop μ-loop loop-holds add-row-at row-at-requires matches-requires returns add-i loop-less loop-again returns-2)
+    (tie.spec Inv-loop μ-loop head-requires loop-holds add-is-row is-row-requires returns add-i loop-less loop-again returns-2)

@@ -1,26 +1,32 @@
 -- `comparing::rows::same_fields` meets its contract. Assumes nothing.
 use Prim.Native.Nat.{_-_}
+use mathlib.Core.Path.{_≡_}
+use Rattle.layouts.specs.Letters.{rowOf}
+use Rattle.form.specs.declared.Rules.the-variants.{Idf3}
 use borrow.Author.Needs.{needs}
 use Rattle.comparing.proofs.RowLaws.{Agreeing, agreeing-start, agreeing-over, agreeing-type, agreeing-place, agreeing-room, agreeing-not, agreeing-fits, agreeing-more}
 use Rattle.comparing.proofs.rows.same_fields.Statement.{statement}
 use Rattle.comparing.proofs.rows.same_fields.Tie as tie
 
 abbrev Inv-loop : tie.InvT-loop
-Inv-loop g kind first x second y n at₀ i₀ at i = Agreeing g kind first x second y n at i
+Inv-loop g kind first x second y n layout at₀ i₀ at i = Agreeing g kind first x second y n at i × (layout ≡ rowOf Idf3 kind)
 
 abbrev μ-loop : tie.MeasureT-loop
-μ-loop g kind first x second y n at₀ i₀ at i = n - i
+μ-loop g kind first x second y n layout at₀ i₀ at i = n - i
 
 ruleset laws = (agreeing-start, agreeing-over, agreeing-type, agreeing-place, agreeing-room, agreeing-not, agreeing-fits, agreeing-more, needs)
 
 field-count-requires : tie.Need-field-count-requires Inv-loop μ-loop
 field-count-requires c κs = search laws
 
+row-of-requires : tie.Need-row-of-requires Inv-loop μ-loop
+row-of-requires c κs = search laws
+
 loop-holds : tie.Need-loop-holds Inv-loop μ-loop
 loop-holds c = search laws
 
-field-type-requires : tie.Need-field-type-requires Inv-loop μ-loop
-field-type-requires c κs = search laws
+type-in-requires : tie.Need-type-in-requires Inv-loop μ-loop
+type-in-requires c κs = search laws
 
 agrees-at-requires : tie.Need-agrees-at-requires Inv-loop μ-loop
 agrees-at-requires c κs = search laws
@@ -49,4 +55,4 @@ returns-2 c = search laws
 pub same-fields-spec : {M : Type 1} → statement M
 same-fields-spec =
     tie.close
-    (tie.spec Inv-loop μ-loop field-count-requires loop-holds field-type-requires agrees-at-requires returns width-of-requires add-at add-i loop-less loop-again returns-2)
+    (tie.spec Inv-loop μ-loop field-count-requires row-of-requires loop-holds type-in-requires agrees-at-requires returns width-of-requires add-at add-i loop-less loop-again returns-2)
