@@ -101,8 +101,8 @@ module _ (v : Rules) (l : Words) (z : ℤ) (x : Bool) (f : SFits w64 z) (e : x �
       rw (a, d) (sym (empty-length (wordAt (wordsOf v l) (natAbs z))))
 
 -- past the last column
-pub column-past : (row : List ℤ) (i : ℕ) → length row ≡ 10 → 10 ≤ i → pos 0 ≡ columnAt row i
-column-past row i e h = sym (List·getD-eq-default row (pos 0) {n = i} (omega arith))
+pub column-past : (row : List ℤ) (i : ℕ) → length row ≤ i → pos 0 ≡ columnAt row i
+column-past row i h = sym (List·getD-eq-default row (pos 0) {n = i} (omega arith))
 
 -- bytes at a field
 text-good : (t : FieldType) (s : List ℕ) → goodText t s ≡ allOf textByte s

@@ -144,19 +144,19 @@ fn field_fits(c: Context, t: FieldType, bytes: &[u8], a: i64, b: i64) -> bool
 }
 
 // A column of a row, 0 past its last.
-pub fn column_at(row: [i64; WIDTH], i: usize) -> i64
-    ensures { λ r. ⌜ r ≡ columnAt row i ⌝ }
+pub fn column_at(row: &[i64], i: usize) -> i64
+    ensures { λ r. ⌜ r ≡ columnAt (now (row .entry)) i ⌝ }
 {
-    if i < WIDTH {
+    if i < row.len() {
         return row[i];
     }
     0
 }
 
 // Whether a row holds a value of a type from a column on.
-fn column_fits(c: Context, t: FieldType, bytes: &[u8], row: [i64; WIDTH], i: usize) -> bool
+fn column_fits(c: Context, t: FieldType, bytes: &[u8], row: &[i64], i: usize) -> bool
     requires { ⌜ i < 100 ⌝ }
-    ensures { λ r. ⌜ r ≡ columnFits c t (now (bytes .entry)) row i ⌝ }
+    ensures { λ r. ⌜ r ≡ columnFits c t (now (bytes .entry)) (now (row .entry)) i ⌝ }
 {
     field_fits(c, t, bytes, column_at(row, i), column_at(row, i + 1))
 }
@@ -187,7 +187,7 @@ fn fields_fit(c: Context, kind: u64, bytes: &[u8], row: [i64; WIDTH]) -> bool
     let mut k = 1;
     while i < n {
         let t = layouts::type_in(v, kind, layout, i);
-        if !column_fits(c, t, bytes, row, k) {
+        if !column_fits(c, t, bytes, &row, k) {
             return false;
         }
         k += layouts::width_of(t);

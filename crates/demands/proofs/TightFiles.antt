@@ -60,7 +60,7 @@ tight-judging-whole-judge κs a r q ws us e f = (e ∙ sym f, refl)
 
 -- `columns`
 
-pub tight-columns-column-at : Tight 0 columns-column-at.ps columns-column-at.r columns-column-at-says.Learnt
+pub tight-columns-column-at : Tight 1 columns-column-at.ps columns-column-at.r columns-column-at-says.Learnt
 tight-columns-column-at κs a r q ws us e f = (e ∙ sym f, refl)
 
 pub tight-columns-row-fits : Tight 1 columns-row-fits.ps columns-row-fits.r columns-row-fits-says.Learnt

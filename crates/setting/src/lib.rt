@@ -33,16 +33,9 @@ fn longer(sum: usize, n: usize) -> usize
 }
 
 // A sum with the field from column i on and the byte behind it.
-fn with_column(
-    sum: usize,
-    v: Rules,
-    t: FieldType,
-    bytes: &[u8],
-    row: [i64; WIDTH],
-    i: usize,
-) -> usize
-    requires { ⌜ (sum ≤ limit + 1) × (i < 100) × (columnFits (anywhere v) t (now bytes) row i ≡ true) ⌝ }
-    ensures { λ r. ⌜ r ≡ upTo (sum + (length (valueText v t (now (bytes .entry)) (columnAt row i) (columnAt row (i + 1))) + 1)) ⌝ }
+fn with_column(sum: usize, v: Rules, t: FieldType, bytes: &[u8], row: &[i64], i: usize) -> usize
+    requires { ⌜ (sum ≤ limit + 1) × (i < 100) × (columnFits (anywhere v) t (now bytes) (now row) i ≡ true) ⌝ }
+    ensures { λ r. ⌜ r ≡ upTo (sum + (length (valueText v t (now (bytes .entry)) (columnAt (now (row .entry)) i) (columnAt (now (row .entry)) (i + 1))) + 1)) ⌝ }
 {
     let a = columns::column_at(row, i);
     let b = columns::column_at(row, i + 1);
@@ -57,12 +50,12 @@ fn put_column(
     v: Rules,
     t: FieldType,
     bytes: &[u8],
-    row: [i64; WIDTH],
+    row: &[i64],
     i: usize,
     n: usize,
 ) -> usize
-    requires { ⌜ (i < 100) × (columnFits (anywhere v) t (now bytes) row i ≡ true) × (at + length (columnText v t (now bytes) row i n) ≤ length (now out)) ⌝ }
-    ensures { λ r. ⌜ Wrote (now (out .entry)) (now (out .exit)) at r (columnText v t (now (bytes .entry)) row i n) ⌝ }
+    requires { ⌜ (i < 100) × (columnFits (anywhere v) t (now bytes) (now row) i ≡ true) × (at + length (columnText v t (now bytes) (now row) i n) ≤ length (now out)) ⌝ }
+    ensures { λ r. ⌜ Wrote (now (out .entry)) (now (out .exit)) at r (columnText v t (now (bytes .entry)) (now (row .entry)) i n) ⌝ }
 {
     let a = columns::column_at(row, i);
     let b = columns::column_at(row, i + 1);
@@ -81,7 +74,7 @@ fn with_fields(sum: usize, v: Rules, kind: u64, bytes: &[u8], row: [i64; WIDTH])
     let mut k = 1;
     while i < n {
         let t = layouts::type_in(v, kind, layout, i);
-        len = with_column(len, v, t, bytes, row, k);
+        len = with_column(len, v, t, bytes, &row, k);
         k += layouts::width_of(t);
         i += 1;
     }
@@ -118,7 +111,7 @@ fn put_fields(
     let mut k = 1;
     while i < n {
         let t = layouts::type_in(v, kind, layout, i);
-        e = put_column(out, e, v, t, bytes, row, k, n - i - 1);
+        e = put_column(out, e, v, t, bytes, &row, k, n - i - 1);
         k += layouts::width_of(t);
         i += 1;
     }

@@ -12,9 +12,10 @@ use records::Reason;
 use records::Stage;
 use records::State;
 ghost use mathlib.Core.Path.{_≡_};
+ghost use Rattle.form.specs.Kinds.{roleOf};
 ghost use Rattle.loops.specs.Loops.{loopAfter};
 ghost use Rattle.records.specs.Marks.{shapeOf, manyLoops};
-ghost use Rattle.records.specs.Automaton.{refusalNumber, accepting, afterTitle, startOf, standsBy, mayStand, afterPoint, onOrOut, amongPoints, movedBy, moved, stepped, typeAt};
+ghost use Rattle.records.specs.Automaton.{roleNumber, refusalNumber, accepting, afterTitle, startOf, standsBy, mayStand, afterPoint, onOrOut, amongPoints, movedBy, moved, stepped, typeAt};
 
 // Whether a file may end in a state.
 pub fn accepting(st: State) -> bool
@@ -75,11 +76,11 @@ fn stands_in(p: Phase, role: u64) -> bool
     }
 }
 
-// Whether a line of a kind may stand in a state.
-pub fn may_stand(v: Rules, st: State, kind: u64) -> bool
+// Whether a line of a kind and its role may stand in a state.
+pub fn may_stand(v: Rules, st: State, kind: u64, role: u64) -> bool
+    requires { ⌜ role ≡ roleNumber (roleOf v kind) ⌝ }
     ensures { λ r. ⌜ r ≡ mayStand v st kind ⌝ }
 {
-    let role = kinds::role_of(v, kind);
     let section = layouts::section_of(v, kind);
     match st {
         State::Between(g) => (role == 0) & stages::may_open(v, g, section),
@@ -141,8 +142,9 @@ fn moved_in(g: Stage, s: u64, p: Phase, role: u64, t: FileType, d: Point) -> Out
     }
 }
 
-// What a line of a kind does where it may stand, with the type and the point in it, if its values fit.
-pub fn moved(v: Rules, st: State, kind: u64, t: FileType, d: Point) -> Outcome
+// What a line of a kind and its role does where it may stand, with the type and the point in it, if its values fit.
+pub fn moved(v: Rules, st: State, kind: u64, role: u64, t: FileType, d: Point) -> Outcome
+    requires { ⌜ role ≡ roleNumber (roleOf v kind) ⌝ }
     ensures { λ r. ⌜ r ≡ moved v st kind t d ⌝ }
 {
     match st {
@@ -150,7 +152,7 @@ pub fn moved(v: Rules, st: State, kind: u64, t: FileType, d: Point) -> Outcome
             let s = layouts::section_of(v, kind);
             Outcome::Next(State::Inside(g, s, start_of(v, s)))
         }
-        State::Inside(g, s, p) => moved_in(g, s, p, kinds::role_of(v, kind), t, d),
+        State::Inside(g, s, p) => moved_in(g, s, p, role, t, d),
     }
 }
 
@@ -158,8 +160,9 @@ pub fn moved(v: Rules, st: State, kind: u64, t: FileType, d: Point) -> Outcome
 pub fn advance(v: Rules, st: State, kind: u64, t: FileType, d: Point) -> Outcome
     ensures { λ r. ⌜ r ≡ stepped v st kind t d ⌝ }
 {
-    if may_stand(v, st, kind) {
-        moved(v, st, kind, t, d)
+    let role = kinds::role_of(v, kind);
+    if may_stand(v, st, kind, role) {
+        moved(v, st, kind, role, t, d)
     } else {
         Outcome::Refused(Reason::Misplaced)
     }

@@ -17,8 +17,9 @@ ghost use mathlib.Core.Path.{_≡_};
 ghost use mathlib.Core.Bool.{true};
 ghost use Prim.Native.Nat.{_+_, _^_, _≤_, _<_};
 ghost use lib.ListN.{length, take};
+ghost use Rattle.form.specs.Kinds.{roleOf};
 ghost use Rattle.records.specs.Places.{sectionIn};
-ghost use Rattle.records.specs.Automaton.{mayStand};
+ghost use Rattle.records.specs.Automaton.{roleNumber, mayStand};
 ghost use Rattle.walking.specs.Judging.{refusedBy, freeBy, pointIn, typeInRow, movedRow, filledBy, ofKind, dataBy, judged};
 
 // A refused line leaves the state as it is.
@@ -86,8 +87,8 @@ fn taken(st: State, row: [i64; WIDTH], o: Outcome) -> Judged
 }
 
 // A line of a kind that may stand, whose fields were read.
-fn filled(v: Rules, st: State, kind: u64, f: Filling) -> Judged
-    requires { ⌜ mayStand v st kind ≡ true ⌝ }
+fn filled(v: Rules, st: State, kind: u64, role: u64, f: Filling) -> Judged
+    requires { ⌜ (mayStand v st kind ≡ true) × (role ≡ roleNumber (roleOf v kind)) ⌝ }
     ensures { λ r. ⌜ r ≡ filledBy v st kind f ⌝ }
 {
     let n = f.refused;
@@ -98,16 +99,25 @@ fn filled(v: Rules, st: State, kind: u64, f: Filling) -> Judged
     taken(
         st,
         row,
-        states::moved(v, st, kind, type_in(row), point_in(row)),
+        states::moved(v, st, kind, role, type_in(row), point_in(row)),
     )
 }
 
-// A line of a kind with n fields, the first of them from a place on; it starts at `base` in the file.
-fn of_kind(v: Rules, st: State, kind: u64, s: &[u8], base: usize, n: usize, from: usize) -> Judged
-    requires { ⌜ (from ≤ length (now s)) × (base + length (now s) < 2 ^ 62) ⌝ }
+// A line of a kind and its role with n fields, the first of them from a place on; it starts at `base` in the file.
+fn of_kind(
+    v: Rules,
+    st: State,
+    kind: u64,
+    role: u64,
+    s: &[u8],
+    base: usize,
+    n: usize,
+    from: usize,
+) -> Judged
+    requires { ⌜ (role ≡ roleNumber (roleOf v kind)) × (from ≤ length (now s)) × (base + length (now s) < 2 ^ 62) ⌝ }
     ensures { λ r. ⌜ r ≡ ofKind v st kind (now (s .entry)) base n from ⌝ }
 {
-    if !states::may_stand(v, st, kind) {
+    if !states::may_stand(v, st, kind, role) {
         return refused(st, 5);
     }
     if n != layouts::field_count(v, kind) {
@@ -117,7 +127,7 @@ fn of_kind(v: Rules, st: State, kind: u64, s: &[u8], base: usize, n: usize, from
         rules: v,
         file: states::type_at(st),
     };
-    filled(v, st, kind, lines::rows::fill(c, kind, s, base, from))
+    filled(v, st, kind, role, lines::rows::fill(c, kind, s, base, from))
 }
 
 // A data line of n fields: its place is its kind, and PROP itself is no field.
@@ -126,10 +136,11 @@ fn data(v: Rules, st: State, s: &[u8], base: usize, marked: bool, n: usize, afte
     ensures { λ r. ⌜ r ≡ dataBy v st (now (s .entry)) base marked n after ⌝ }
 {
     let kind = kinds::data_kind(v, st, marked);
-    if kinds::role_of(v, kind) == 5 {
-        of_kind(v, st, kind, s, base, n - 1, after)
+    let role = kinds::role_of(v, kind);
+    if role == 5 {
+        of_kind(v, st, kind, role, s, base, n - 1, after)
     } else {
-        of_kind(v, st, kind, s, base, n, 0)
+        of_kind(v, st, kind, role, s, base, n, 0)
     }
 }
 
@@ -142,7 +153,9 @@ fn line(v: Rules, st: State, s: &[u8], base: usize) -> Judged
         LineKind::Free => free(st),
         LineKind::Bad(n) => refused(st, n),
         LineKind::Key(w, n, after) => {
-            of_kind(v, st, kinds::key_kind(v, w), s, base, n - 1, after)
+            let kind = kinds::key_kind(v, w);
+            let role = kinds::role_of(v, kind);
+            of_kind(v, st, kind, role, s, base, n - 1, after)
         }
         LineKind::Data(marked, n, after) => data(v, st, s, base, marked, n, after),
     }

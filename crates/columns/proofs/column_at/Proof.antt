@@ -9,8 +9,8 @@ ruleset laws = (column-past, needs)
 mul-result : tie.Need-mul-result
 mul-result c = search laws
 
-array-copy-out-result : tie.Need-array-copy-out-result
-array-copy-out-result c = search laws
+shared-slice-copy-out-result : tie.Need-shared-slice-copy-out-result
+shared-slice-copy-out-result c = search laws
 
 returns : tie.Need-returns
 returns c = search laws
@@ -19,6 +19,4 @@ returns-2 : tie.Need-returns-2
 returns-2 c = search laws
 
 pub column-at-spec : {M : Type 1} → statement M
-column-at-spec =
-    tie.close
-    (tie.spec mul-result array-copy-out-result returns returns-2)
+column-at-spec = tie.close (tie.spec mul-result shared-slice-copy-out-result returns returns-2)

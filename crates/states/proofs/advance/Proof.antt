@@ -6,6 +6,9 @@ use Rattle.states.proofs.advance.Tie as tie
 
 ruleset laws = (step-moves, step-misplaced, needs)
 
+role-of-requires : tie.Need-role-of-requires
+role-of-requires c κs = search laws
+
 may-stand-requires : tie.Need-may-stand-requires
 may-stand-requires c κs = search laws
 
@@ -21,4 +24,4 @@ returns-2 c = search laws
 pub advance-spec : {M : Type 1} → statement M
 advance-spec =
     tie.close
-    (tie.spec may-stand-requires moved-requires returns returns-2)
+    (tie.spec role-of-requires may-stand-requires moved-requires returns returns-2)

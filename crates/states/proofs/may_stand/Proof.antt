@@ -6,9 +6,6 @@ use Rattle.states.proofs.may_stand.Tie as tie
 
 ruleset laws = (stand-between, stand-inside, needs)
 
-role-of-requires : tie.Need-role-of-requires
-role-of-requires c κs = search laws
-
 section-of-requires : tie.Need-section-of-requires
 section-of-requires c κs = search laws
 
@@ -33,4 +30,4 @@ returns-2 c = search laws
 pub may-stand-spec : {M : Type 1} → statement M
 may-stand-spec =
     tie.close
-    (tie.spec role-of-requires section-of-requires enum-known-st may-open-requires enum-known-st-2 stands-in-requires returns returns-2)
+    (tie.spec section-of-requires enum-known-st may-open-requires enum-known-st-2 stands-in-requires returns returns-2)

@@ -18,9 +18,6 @@ start-of-requires c κs = search laws
 enum-known-st-2 : tie.Need-enum-known-st-2
 enum-known-st-2 c = search laws
 
-role-of-requires : tie.Need-role-of-requires
-role-of-requires c κs = search laws
-
 moved-in-requires : tie.Need-moved-in-requires
 moved-in-requires c κs = search laws
 
@@ -33,4 +30,4 @@ returns-2 c = search laws
 pub moved-spec : {M : Type 1} → statement M
 moved-spec =
     tie.close
-    (tie.spec enum-known-st section-of-requires start-of-requires enum-known-st-2 role-of-requires moved-in-requires returns returns-2)
+    (tie.spec enum-known-st section-of-requires start-of-requires enum-known-st-2 moved-in-requires returns returns-2)

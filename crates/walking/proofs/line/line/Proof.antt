@@ -28,6 +28,9 @@ enum-known-w c = search laws
 key-kind-requires : tie.Need-key-kind-requires
 key-kind-requires c κs = search laws
 
+role-of-requires : tie.Need-role-of-requires
+role-of-requires c κs = search laws
+
 sub-of-kind : tie.Need-sub-of-kind
 sub-of-kind c = search laws
 
@@ -55,4 +58,4 @@ returns-4 c = search laws
 pub line-spec : {M : Type 1} → statement M
 line-spec =
     tie.close
-    (tie.spec line-kind-requires enum-told free-requires enum-known-n refused-requires enum-known-w key-kind-requires sub-of-kind of-kind-requires enum-known-marked data-requires returns returns-2 returns-3 returns-4)
+    (tie.spec line-kind-requires enum-told free-requires enum-known-n refused-requires enum-known-w key-kind-requires role-of-requires sub-of-kind of-kind-requires enum-known-marked data-requires returns returns-2 returns-3 returns-4)
