@@ -6,19 +6,21 @@ use mathlib.Core.Path.{_≡_, refl, sym, _∙_}
 use mathlib.Core.List.{List, [], _∷_}
 use mathlib.Core.Bool.{Bool, true, false, not, _&&_, false≢true}
 use native.Mathlib.Omega.{arith}
-use borrow.Author.Tests.{le-leb, lt-leb, leb-true, leb-false, ne-eqb}
+use borrow.Author.Tests.{le-leb, lt-leb, leb-true, leb-false, ne-eqb, lt-ltb, le-ltb}
 use lib.Dec.{leb, eqb}
 use lib.ListN.{length, getD}
 use Rattle.text.proofs.Lists.{and-left, and-right}
-use Rattle.text.proofs.Tables.{allBelow, below-all}
+use Rattle.text.proofs.Tables.{allBelow, below-all, Missed, past}
 use Rattle.form.proofs.CompareLaws.{same-eq}
 use Rattle.form.specs.Names.{sectionNames}
 use Rattle.form.specs.Compare.{sameBytes, wordAt}
 use Rattle.form.specs.Sections.{sections}
 use Rattle.form.specs.Kinds.{sectionOf, lineOf}
 use Rattle.form.specs.Layouts.{layoutOf, typesOf}
-use Rattle.layouts.specs.Letters.{letterAt, rowOf, rowFor, widths, isKind, layoutTable, lineTable, letterOf, letters, typeAt, typeNamed}
+use Rattle.layouts.specs.Letters.{letterAt, rowOf, rowFor, widths, isKind, layoutTable, lineTable, letterOf, letters, typeAt, limitAt, wordsAt, plainNamed, typeNamed}
+use Rattle.form.specs.declared.Words.{Words}
 use Rattle.form.specs.declared.Words.the-variants.{FileTypes, Units, Owners, Faces, Sides, Layers, Plates, Statuses}
+use Rattle.form.specs.declared.Limit.{Limit}
 use Rattle.form.specs.declared.Limit.the-variants.{Length as L, NotBelow as L0, Above as Lp, Included as A, Rotation as R, Version as Ver}
 use Rattle.form.specs.declared.FieldType.{FieldType}
 use Rattle.form.specs.declared.FieldType.the-variants.{Text as T, Reference as Ref, Date as D, Integer as I, Number as N, Word as W}
@@ -171,12 +173,40 @@ named (W Layers) = refl
 named (W Plates) = refl
 named (W Statuses) = refl
 
-pub named-at : (b : ℕ) (t : FieldType) → b ≡ letterOf t → t ≡ typeNamed b
-named-at b t e = rw e (sym (named t))
+pub limit-last : (n : ℕ) → Missed 0 5 n → Ver ≡ limitAt n
+limit-last n p =
+    let k = past 0 5 n p (omega arith) in
+    rw (ne-eqb n 0 (λ e. omega arith), ne-eqb n 1 (λ e. omega arith), ne-eqb n 2 (λ e. omega arith), ne-eqb n 3 (λ e. omega arith), ne-eqb n 4 (λ e. omega arith))
 
-pub named-other : (b : ℕ) → (b ≡ 82 → ⊥) → (b ≡ 68 → ⊥) → (b ≡ 73 → ⊥) → (b ≡ 76 → ⊥) → (b ≡ 78 → ⊥) → (b ≡ 80 → ⊥) → (b ≡ 65 → ⊥) → (b ≡ 114 → ⊥) → (b ≡ 86 → ⊥) → (b ≡ 102 → ⊥) → (b ≡ 117 → ⊥) → (b ≡ 111 → ⊥) → (b ≡ 116 → ⊥) → (b ≡ 115 → ⊥) → (b ≡ 108 → ⊥) → (b ≡ 112 → ⊥) → (b ≡ 120 → ⊥) → T ≡ typeNamed b
-unfolding typeNamed
-named-other b n0 n1 n2 n3 n4 n5 n6 n7 n8 n9 n10 n11 n12 n13 n14 n15 n16 = rw (ne-eqb b 82 n0, ne-eqb b 68 n1, ne-eqb b 73 n2, ne-eqb b 76 n3, ne-eqb b 78 n4, ne-eqb b 80 n5, ne-eqb b 65 n6, ne-eqb b 114 n7, ne-eqb b 86 n8, ne-eqb b 102 n9, ne-eqb b 117 n10, ne-eqb b 111 n11, ne-eqb b 116 n12, ne-eqb b 115 n13, ne-eqb b 108 n14, ne-eqb b 112 n15, ne-eqb b 120 n16)
+pub words-last : (n : ℕ) → Missed 0 7 n → Statuses ≡ wordsAt n
+words-last n p =
+    let k = past 0 7 n p (omega arith) in
+    rw (ne-eqb n 0 (λ e. omega arith), ne-eqb n 1 (λ e. omega arith), ne-eqb n 2 (λ e. omega arith), ne-eqb n 3 (λ e. omega arith), ne-eqb n 4 (λ e. omega arith), ne-eqb n 5 (λ e. omega arith), ne-eqb n 6 (λ e. omega arith))
+
+module _ (b : ℕ) where
+  pub plain-reference : b ≡ 82 → Ref ≡ plainNamed b
+  plain-reference e = rw e
+
+  pub plain-date : b ≡ 68 → D ≡ plainNamed b
+  plain-date e = rw e
+
+  pub plain-integer : b ≡ 73 → I ≡ plainNamed b
+  plain-integer e = rw e
+
+  pub plain-text : (b ≡ 82 → ⊥) → (b ≡ 68 → ⊥) → (b ≡ 73 → ⊥) → T ≡ plainNamed b
+  plain-text n m k = rw (ne-eqb b 82 n, ne-eqb b 68 m, ne-eqb b 73 k)
+
+  pub named-plain : (t : FieldType) → b < 97 → t ≡ plainNamed b → t ≡ typeNamed b
+  unfolding typeNamed
+  named-plain t h e = rw (lt-ltb b 97 h) e
+
+  pub named-number : (l : Limit) → 97 ≤ b → b < 103 → l ≡ limitAt (b - 97) → N l ≡ typeNamed b
+  unfolding typeNamed
+  named-number l h k e = rw (le-ltb b 97 h, lt-ltb b 103 k, e)
+
+  pub named-word : (l : Words) → 97 ≤ b → 103 ≤ b → l ≡ wordsAt (b - 103) → W l ≡ typeNamed b
+  unfolding typeNamed
+  named-word l h k e = rw (le-ltb b 97 h, le-ltb b 103 k, e)
 
 -- so few fields and columns fit
 module _ (v : Rules) (k : ℕ) (row : List ℕ) (e : row ≡ rowOf v k) where

@@ -3,7 +3,7 @@ use Prim.Native.Nat.{ℕ, zero, suc, _+_, _-_, _/_, _%_}
 use mathlib.Core.List.{List, [], _∷_}
 use mathlib.Core.Option.{Option, none, some}
 use mathlib.Core.Bool.{Bool, true, false, cond}
-use lib.Dec.{leb, eqb}
+use lib.Dec.{leb, ltb, eqb}
 use lib.ListN.{length, getD}
 use Rattle.text.specs.Bytes.{ascii}
 use Rattle.form.specs.Layouts.{Layout, layoutOf}
@@ -43,22 +43,22 @@ typeAt ts i = getD ts i T
 -- letters
 
 abbrev pub limitLetter : Limit → ℕ
-limitLetter L = 76
-limitLetter L0 = 78
-limitLetter Lp = 80
-limitLetter A = 65
-limitLetter R = 114
-limitLetter Ver = 86
+limitLetter L = 97
+limitLetter L0 = 98
+limitLetter Lp = 99
+limitLetter A = 100
+limitLetter R = 101
+limitLetter Ver = 102
 
 abbrev pub wordsLetter : Words → ℕ
-wordsLetter FileTypes = 102
-wordsLetter Units = 117
-wordsLetter Owners = 111
-wordsLetter Faces = 116
-wordsLetter Sides = 115
+wordsLetter FileTypes = 103
+wordsLetter Units = 104
+wordsLetter Owners = 105
+wordsLetter Faces = 106
+wordsLetter Sides = 107
 wordsLetter Layers = 108
-wordsLetter Plates = 112
-wordsLetter Statuses = 120
+wordsLetter Plates = 109
+wordsLetter Statuses = 110
 
 -- the letter of a type
 abbrev pub letterOf : FieldType → ℕ
@@ -69,27 +69,27 @@ letterOf I = 73
 letterOf (N l) = limitLetter l
 letterOf (W l) = wordsLetter l
 
+-- a limit and a list of words by their places
+abbrev pub limitAt : ℕ → Limit
+limitAt n = cond (eqb n 0) L (cond (eqb n 1) L0 (cond (eqb n 2) Lp (cond (eqb n 3) A (cond (eqb n 4) R Ver))))
+
+abbrev pub wordsAt : ℕ → Words
+wordsAt n =
+    cond (eqb n 0) FileTypes
+    (cond (eqb n 1) Units
+    (cond (eqb n 2) Owners
+    (cond (eqb n 3) Faces
+    (cond (eqb n 4) Sides
+    (cond (eqb n 5) Layers
+    (cond (eqb n 6) Plates
+    Statuses))))))
+
+abbrev pub plainNamed : ℕ → FieldType
+plainNamed b = cond (eqb b 82) Ref (cond (eqb b 68) D (cond (eqb b 73) I T))
+
 -- the type of a letter
 unfoldable pub typeNamed : ℕ → FieldType
-typeNamed b =
-    cond (eqb b 82) Ref
-    (cond (eqb b 68) D
-    (cond (eqb b 73) I
-    (cond (eqb b 76) (N L)
-    (cond (eqb b 78) (N L0)
-    (cond (eqb b 80) (N Lp)
-    (cond (eqb b 65) (N A)
-    (cond (eqb b 114) (N R)
-    (cond (eqb b 86) (N Ver)
-    (cond (eqb b 102) (W FileTypes)
-    (cond (eqb b 117) (W Units)
-    (cond (eqb b 111) (W Owners)
-    (cond (eqb b 116) (W Faces)
-    (cond (eqb b 115) (W Sides)
-    (cond (eqb b 108) (W Layers)
-    (cond (eqb b 112) (W Plates)
-    (cond (eqb b 120) (W Statuses)
-    T))))))))))))))))
+typeNamed b = cond (ltb b 97) (plainNamed b) (cond (ltb b 103) (N (limitAt (b - 97))) (W (wordsAt (b - 103))))
 
 -- the letters of a layout's types, padded to seven
 abbrev pub letters : ℕ → List FieldType → List ℕ
@@ -107,20 +107,20 @@ unfoldable pub layoutTable : List (List ℕ)
 layoutTable =
     ascii "00       "
     ∷ ascii "00       "
-    ∷ ascii "11o      "
-    ∷ ascii "57fVTDI  "
-    ∷ ascii "23Tu     "
-    ∷ ascii "11L      "
-    ∷ ascii "34TNt    "
+    ∷ ascii "11i      "
+    ∷ ascii "57gfTDI  "
+    ∷ ascii "23Th     "
+    ∷ ascii "11a      "
+    ∷ ascii "34Tbj    "
     ∷ ascii "11l      "
-    ∷ ascii "22sN     "
-    ∷ ascii "23sT     "
-    ∷ ascii "79PLLpTTo"
-    ∷ ascii "56LLLLT  "
+    ∷ ascii "22kb     "
+    ∷ ascii "23kT     "
+    ∷ ascii "79caamTTi"
+    ∷ ascii "56aaaaT  "
     ∷ ascii "36TTR    "
-    ∷ ascii "66LLNrtx "
-    ∷ ascii "46TTuL   "
-    ∷ ascii "44ILLA   "
+    ∷ ascii "66aabejn "
+    ∷ ascii "46TTha   "
+    ∷ ascii "44Iaad   "
     ∷ ascii "24TT     "
     ∷ []
 

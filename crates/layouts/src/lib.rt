@@ -8,40 +8,41 @@ ghost use Prim.Native.Nat.{_+_, _≤_, _<_};
 ghost use lib.ListN.{length};
 ghost use Rattle.form.specs.Layouts.{typesOf};
 ghost use Rattle.form.specs.Kinds.{sectionOf};
-ghost use Rattle.layouts.specs.Letters.{lineLetter, letterAt, rowOf, isKind, typeAt, typeNamed, widthOf, widths};
+ghost use Rattle.layouts.specs.Letters.{lineLetter, letterAt, rowOf, isKind, typeAt, limitAt, wordsAt, plainNamed, typeNamed, widthOf, widths};
 
 // The row of each layout: how many fields, how many columns they fill, and the letter of each field's type.
-// Letters of types: T text, R reference, D date, I integer; V version, L length, N length from zero on, P length above zero,
-// A included angle, r rotation; words: f file types, u units, o owners, t faces, s sides, l layers, p plates, x statuses.
+// Letters of types: T text, R reference, D date, I integer; numbers, in the order of their limits: a length, b length from zero on,
+// c length above zero, d included angle, e rotation, f version; words, in the order of their lists: g file types, h units, i owners,
+// j faces, k sides, l layers, m plates, n statuses.
 const NO_FIELDS: [u8; 9] = *b"00       "; // A a keyword alone, and @ no such kind
 
-const OWNER: [u8; 9] = *b"11o      "; // B an opening line and its owner
+const OWNER: [u8; 9] = *b"11i      "; // B an opening line and its owner
 
-const TITLE: [u8; 9] = *b"57fVTDI  "; // C file type, version, system, date, file version number
+const TITLE: [u8; 9] = *b"57gfTDI  "; // C file type, version, system, date, file version number
 
-const NAME: [u8; 9] = *b"23Tu     "; // D name, unit
+const NAME: [u8; 9] = *b"23Th     "; // D name, unit
 
-const THICKNESS: [u8; 9] = *b"11L      "; // E thickness
+const THICKNESS: [u8; 9] = *b"11a      "; // E thickness
 
-const OTHER: [u8; 9] = *b"34TNt    "; // F identifier, thickness, side
+const OTHER: [u8; 9] = *b"34Tbj    "; // F identifier, thickness, side
 
 const LAYERS: [u8; 9] = *b"11l      "; // G layers
 
-const HEIGHT: [u8; 9] = *b"22sN     "; // H side, height
+const HEIGHT: [u8; 9] = *b"22kb     "; // H side, height
 
-const GROUP: [u8; 9] = *b"23sT     "; // I side, group
+const GROUP: [u8; 9] = *b"23kT     "; // I side, group
 
-const HOLE: [u8; 9] = *b"79PLLpTTo"; // J diameter, x, y, plating, part, hole type, owner
+const HOLE: [u8; 9] = *b"79caamTTi"; // J diameter, x, y, plating, part, hole type, owner
 
-const NOTE: [u8; 9] = *b"56LLLLT  "; // K x, y, height, length, text
+const NOTE: [u8; 9] = *b"56aaaaT  "; // K x, y, height, length, text
 
 const PART: [u8; 9] = *b"36TTR    "; // L package, part number, reference
 
-const POSITION: [u8; 9] = *b"66LLNrtx "; // M x, y, offset, rotation, side, status
+const POSITION: [u8; 9] = *b"66aabejn "; // M x, y, offset, rotation, side, status
 
-const COMPONENT: [u8; 9] = *b"46TTuL   "; // N geometry, part, unit, height
+const COMPONENT: [u8; 9] = *b"46TTha   "; // N geometry, part, unit, height
 
-const POINT: [u8; 9] = *b"44ILLA   "; // O label, x, y, angle
+const POINT: [u8; 9] = *b"44Iaad   "; // O label, x, y, angle
 
 const PROPERTY: [u8; 9] = *b"24TT     "; // P property: name, value
 
@@ -213,30 +214,59 @@ pub fn width_of(t: FieldType) -> usize
     }
 }
 
-// The type of a letter.
-fn type_of(letter: u8) -> FieldType
-    ensures { λ r. ⌜ r ≡ typeNamed letter ⌝ }
+// A limit by its place among the limits.
+fn limit_of(n: u8) -> Limit
+    ensures { λ r. ⌜ r ≡ limitAt n ⌝ }
+{
+    match n {
+        0 => Limit::Length,
+        1 => Limit::NotBelow,
+        2 => Limit::Above,
+        3 => Limit::Included,
+        4 => Limit::Rotation,
+        _ => Limit::Version,
+    }
+}
+
+// A list of words by its place among the lists.
+fn words_of(n: u8) -> Words
+    ensures { λ r. ⌜ r ≡ wordsAt n ⌝ }
+{
+    match n {
+        0 => Words::FileTypes,
+        1 => Words::Units,
+        2 => Words::Owners,
+        3 => Words::Faces,
+        4 => Words::Sides,
+        5 => Words::Layers,
+        6 => Words::Plates,
+        _ => Words::Statuses,
+    }
+}
+
+// The type of a letter that names no number and no word.
+fn plain_type(letter: u8) -> FieldType
+    ensures { λ r. ⌜ r ≡ plainNamed letter ⌝ }
 {
     match letter {
         82 => FieldType::Reference,
         68 => FieldType::Date,
         73 => FieldType::Integer,
-        76 => FieldType::Number(Limit::Length),
-        78 => FieldType::Number(Limit::NotBelow),
-        80 => FieldType::Number(Limit::Above),
-        65 => FieldType::Number(Limit::Included),
-        114 => FieldType::Number(Limit::Rotation),
-        86 => FieldType::Number(Limit::Version),
-        102 => FieldType::Word(Words::FileTypes),
-        117 => FieldType::Word(Words::Units),
-        111 => FieldType::Word(Words::Owners),
-        116 => FieldType::Word(Words::Faces),
-        115 => FieldType::Word(Words::Sides),
-        108 => FieldType::Word(Words::Layers),
-        112 => FieldType::Word(Words::Plates),
-        120 => FieldType::Word(Words::Statuses),
         _ => FieldType::Text,
     }
+}
+
+// The type of a letter; limits and lists follow each other, so that no table of jumps is needed.
+fn type_of(letter: u8) -> FieldType
+    ensures { λ r. ⌜ r ≡ typeNamed letter ⌝ }
+{
+    if letter < 97 {
+        return plain_type(letter);
+    }
+    if letter < 103 {
+        return FieldType::Number(limit_of(letter - 97));
+    }
+    FieldType::Word(words_of(letter - 103))
 }
 
 // The type of a field of a line of a kind, fields counted from 0, by the row of the kind's layout.
