@@ -6,6 +6,8 @@ use Rattle.comparing.proofs.lists.same_lists.Kinds as comparing-lists-same-list
 use Rattle.comparing.proofs.lists.same_lists.Reads as comparing-lists-same-lists-says
 use Rattle.comparing.proofs.rows.same_row.Kinds as comparing-rows-same-row
 use Rattle.comparing.proofs.rows.same_row.Reads as comparing-rows-same-row-says
+use Rattle.stock.proofs.is_in.Kinds as stock-is-in
+use Rattle.stock.proofs.is_in.Reads as stock-is-in-says
 use Rattle.stock.proofs.fill.Kinds as stock-fill
 use Rattle.stock.proofs.fill.Reads as stock-fill-says
 use Rattle.stock.proofs.has_place.Kinds as stock-has-place
@@ -14,6 +16,8 @@ use Rattle.judging.proofs.entries.is_of.Kinds as judging-entries-is-of
 use Rattle.judging.proofs.entries.is_of.Reads as judging-entries-is-of-says
 use Rattle.judging.proofs.entries.lacks.Kinds as judging-entries-lacks
 use Rattle.judging.proofs.entries.lacks.Reads as judging-entries-lacks-says
+use Rattle.judging.proofs.parts.placed.Kinds as judging-parts-placed
+use Rattle.judging.proofs.parts.placed.Reads as judging-parts-placed-says
 use Rattle.judging.proofs.whole.judge.Kinds as judging-whole-judge
 use Rattle.judging.proofs.whole.judge.Reads as judging-whole-judge-says
 use Rattle.columns.proofs.column_at.Kinds as columns-column-at
@@ -41,8 +45,11 @@ tight-comparing-rows-same-row κs a r q ws us e f = (e ∙ sym f, refl)
 
 -- `stock`
 
+pub tight-stock-is-in : Tight 0 stock-is-in.ps stock-is-in.r stock-is-in-says.Learnt
+tight-stock-is-in κs a r q ws us e f = (e ∙ sym f, refl)
+
 pub tight-stock-fill : Tight 2 stock-fill.ps stock-fill.r stock-fill-says.Learnt
-tight-stock-fill κs a r q ws us e f = (refl, λ i. (ws .0, ((e ∙ sym f) i, ws .1 .1)))
+tight-stock-fill κs a r q ws us e f = (e .0 ∙ sym (f .0), λ i. (ws .0, (ws .1 .0, (ws .1 .1 .0, ((e .1 ∙ sym (f .1)) i, ws .1 .1 .1 .1)))))
 
 pub tight-stock-has-place : Tight 3 stock-has-place.ps stock-has-place.r stock-has-place-says.Learnt
 tight-stock-has-place κs a r q ws us e f = (e ∙ sym f, refl)
@@ -54,6 +61,9 @@ tight-judging-entries-is-of κs a r q ws us e f = (e ∙ sym f, refl)
 
 pub tight-judging-entries-lacks : Tight 3 judging-entries-lacks.ps judging-entries-lacks.r judging-entries-lacks-says.Learnt
 tight-judging-entries-lacks κs a r q ws us e f = (e ∙ sym f, refl)
+
+pub tight-judging-parts-placed : Tight 2 judging-parts-placed.ps judging-parts-placed.r judging-parts-placed-says.Learnt
+tight-judging-parts-placed κs a r q ws us e f = (e ∙ sym f, refl)
 
 pub tight-judging-whole-judge : Tight 2 judging-whole-judge.ps judging-whole-judge.r judging-whole-judge-says.Learnt
 tight-judging-whole-judge κs a r q ws us e f = (e ∙ sym f, refl)

@@ -11,6 +11,7 @@ use lib.ListN.{length, getD, replicate, length-replicate, getD-replicate}
 use Rattle.text.proofs.Lists.{and-left, and-right}
 use Rattle.loops.specs.Loops.{eqZ}
 use Rattle.slots.specs.Looks.{looks}
+use Rattle.slots.specs.Slots as slot
 use Rattle.slots.specs.Slots.{holds}
 use Rattle.slots.proofs.SlotLaws.{placed-length, placed-all, held-sound}
 use Rattle.walking.specs.Judging.{columnAt}
@@ -20,7 +21,7 @@ use Rattle.spans.specs.Texts.{textIs, sameTexts}
 use Rattle.naming.specs.Names.{sameNames}
 use Rattle.judging.specs.Entries.{entryIn, hasEntry}
 use Rattle.judging.specs.Stocked.{Stocked}
-use Rattle.stock.specs.Stock.{kindFor, codeFor, packOf, packedRow, isNamed, holdsName, tagOf, tagged, showsBy, showsName, putName, stockedRow, stockIn, stockOf}
+use Rattle.stock.specs.Stock.{kindFor, codeFor, packOf, packedRow, isNamed, holdsName, tagOf, tagged, showsBy, showsName, isIn, putName, stockedRow, stockIn, stockOf}
 
 -- an empty slot holds no name
 empty-none : (library : List ℕ) (k : Bool) (board : List ℕ) (x : List ℤ) → holdsName library k board x 0 ≡ false
@@ -118,27 +119,35 @@ shown-true library j k h y board x e =
     (sym (ap (holdsName library j board x) z) ∙ and-right (eqb ((p * 8_192 + tagOf h) % 8_192) (tagOf (keyOf board x))) (holdsName library j board x ((p * 8_192 + tagOf h) / 8_192)) e)
 
 -- a row of the library, in the slots
-module _ (library places : List ℕ) (y : List ℤ) (s : Stocked library places) where
+module _ (parts part : ℕ) (library places : List ℕ) (y : List ℤ) (s : Stocked library places) where
   abbrev Has : ℕ → Type 0
   Has e = (j : Bool) (board : List ℕ) (x : List ℤ) → showsName library j board x e ≡ true → hasEntry library (kindFor j) board x ≡ true
 
-  put-true : (k : Bool) → ((board : List ℕ) (x : List ℤ) → sameNames library y board x ≡ true → hasEntry library (kindFor k) board x ≡ true)
-      → Stocked library (putName library places k y)
-  unfolding putName
-  put-true k g = record {
+  placed-true : (k : Bool) → ((board : List ℕ) (x : List ℤ) → sameNames library y board x ≡ true → hasEntry library (kindFor k) board x ≡ true)
+      → Stocked library (slot.placed places (keyOf library y) (tagged (keyOf library y) (packedRow k y)))
+  placed-true k g = record {
     room = rw (placed-length places (keyOf library y) (tagged (keyOf library y) (packedRow k y))) (s .room);
     has = placed-all Has places (keyOf library y) (tagged (keyOf library y) (packedRow k y)) (s .room) (s .has) (λ j board x h.
         let r = shown-true library j k (keyOf library y) y board x h in
         ap (λ (i : Bool). hasEntry library (kindFor i) board x) (r .0) ∙ g board x (r .1));
   }
 
+  put-true : (k : Bool) → ((board : List ℕ) (x : List ℤ) → sameNames library y board x ≡ true → hasEntry library (kindFor k) board x ≡ true)
+      → Stocked library (putName parts part library places k y)
+  unfolding putName
+  put-true k g = go (isIn (keyOf library y) parts part)
+    where
+      go : (b : Bool) → Stocked library (cond b (slot.placed places (keyOf library y) (tagged (keyOf library y) (packedRow k y))) places)
+      go true = placed-true k g
+      go false = s
+
   stocked-true : ((k : ℤ) (board : List ℕ) (x : List ℤ) → (eqZ (columnAt y 0) k && sameNames library y board x) ≡ true → hasEntry library k board x ≡ true)
-      → Stocked library (stockedRow library places y)
+      → Stocked library (stockedRow parts part library places y)
   unfolding stockedRow
   stocked-true g = go (eqZ (columnAt y 0) (pos 141)) (eqZ (columnAt y 0) (pos 151)) refl refl
     where
       go : (a b : Bool) → eqZ (columnAt y 0) (pos 141) ≡ a → eqZ (columnAt y 0) (pos 151) ≡ b
-          → Stocked library (cond a (putName library places false y) (cond b (putName library places true y) places))
+          → Stocked library (cond a (putName parts part library places false y) (cond b (putName parts part library places true y) places))
       go true b e i = put-true false (λ board x h. g (pos 141) board x (rw (e, h)))
       go false true e i = put-true true (λ board x h. g (pos 151) board x (rw (i, h)))
       go false false e i = s
@@ -155,19 +164,20 @@ or-right : (a b : Bool) → b ≡ true → (a || b) ≡ true
 or-right true b h = refl
 or-right false b h = h
 
-stock-in : (library places : List ℕ) (t : Trace) → Shown library t → Stocked library places → Stocked library (stockIn library places t)
-unfolding stockIn entryIn
-stock-in library places (done w) g s = s
-stock-in library places (stop n l) g s = s
-stock-in library places (skip l t) g s = stock-in library places t g s
-stock-in library places (row l y t) g s =
-    stock-in library (stockedRow library places y) t
-    (λ k board x h. g k board x (or-right (eqZ (columnAt y 0) k && sameNames library y board x) (entryIn library k board x t) h))
-    (stocked-true library places y s (λ k board x h. g k board x (or-left (eqZ (columnAt y 0) k && sameNames library y board x) (entryIn library k board x t) h)))
+module _ (parts part : ℕ) (library : List ℕ) where
+  stock-in : (places : List ℕ) (t : Trace) → Shown library t → Stocked library places → Stocked library (stockIn parts part library places t)
+  unfolding stockIn entryIn
+  stock-in places (done w) g s = s
+  stock-in places (stop n l) g s = s
+  stock-in places (skip l t) g s = stock-in places t g s
+  stock-in places (row l y t) g s =
+      stock-in (stockedRow parts part library places y) t
+      (λ k board x h. g k board x (or-right (eqZ (columnAt y 0) k && sameNames library y board x) (entryIn library k board x t) h))
+      (stocked-true parts part library places y s (λ k board x h. g k board x (or-left (eqZ (columnAt y 0) k && sameNames library y board x) (entryIn library k board x t) h)))
 
-stock-true : (library places : List ℕ) → Stocked library places → Stocked library (stockOf library places)
-unfolding stockOf hasEntry
-stock-true library places = stock-in library places (traceOf library) (λ k board x h. h)
+  stock-true : (places : List ℕ) → Stocked library places → Stocked library (stockOf parts part library places)
+  unfolding stockOf hasEntry
+  stock-true places = stock-in places (traceOf library) (λ k board x h. h)
 
 -- slots before anything is put into them
 getD-past : (xs : List ℕ) (i : ℕ) → length xs ≤ i → getD xs i 0 ≡ 0
@@ -194,14 +204,18 @@ empty-stocked library n h = record {
   has = λ i k board x e. absurd (false≢true (sym (none-shown library k board x) ∙ sym (ap (showsName library k board x) (none-held n i)) ∙ e));
 }
 
-filled : (library ys : List ℕ) (n : ℕ) → looks < n → ys ≡ stockOf library (empty n) → Stocked library ys
-filled library ys n h e = subst (Stocked library) (sym e) (stock-true library (empty n) (empty-stocked library n h))
+module _ (parts part : ℕ) (library ys : List ℕ) where
+  filled : (n : ℕ) → looks < n → ys ≡ stockOf parts part library (empty n) → Stocked library ys
+  filled n h e = subst (Stocked library) (sym e) (stock-true parts part library (empty n) (empty-stocked library n h))
 
-pub filled-all : (library ys : List ℕ) → ys ≡ stockOf library (empty 61_440) → Stocked library ys
-filled-all library ys e = filled library ys 61_440 (omega arith) e
+  pub filled-all : ys ≡ stockOf parts part library (empty 61_440) → Stocked library ys
+  filled-all e = filled 61_440 (omega arith) e
 
-pub filled-few : (library ys : List ℕ) → ys ≡ stockOf library (empty 2_048) → Stocked library ys
-filled-few library ys e = filled library ys 2_048 (omega arith) e
+  pub filled-few : ys ≡ stockOf parts part library (empty 2_048) → Stocked library ys
+  filled-few e = filled 2_048 (omega arith) e
+
+  pub filled-again : (places : List ℕ) → ys ≡ stockOf parts part library (empty (length places)) → looks < length places → Stocked library ys
+  filled-again places e h = filled (length places) h e
 
 -- as the code asks them
 module _ (library places : List ℕ) (s : Stocked library places) where

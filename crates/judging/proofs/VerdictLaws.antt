@@ -1,5 +1,5 @@
 -- Laws of the verdicts, as the code leaves them.
-use Prim.Native.Nat.{ℕ, _+_, _-_, _^_, _≤_, _<_}
+use Prim.Native.Nat.{ℕ, _-_, _≤_, _<_}
 use mathlib.Core.Path.{_≡_, refl, sym, ap, _∙_}
 use mathlib.Core.List.{List}
 use mathlib.Core.Bool.{Bool, true, false, not, cond, _&&_, true≢false, false≢true}
@@ -22,10 +22,10 @@ use Rattle.records.specs.Answers.{limit, reply, verdict}
 use Rattle.walking.specs.Walks.{begun, turnOf, stopsBy, isRow, Steady, Trace, traceBy, traceAt}
 use Rattle.naming.specs.Names.{repeatOf}
 use Rattle.reading.specs.Replies.{survey, checkReply}
-use Rattle.walking.proofs.WalkLaws.{Going, going-start, going-trace, going-past, going-less, going-more, going-end}
+use Rattle.walking.proofs.WalkLaws.{Going, going-start, going-trace, going-less, going-more, going-end}
 use Rattle.records.specs.declared.Verdict.{Verdict}
-use Rattle.judging.specs.Entries.{isOf, lacksEntry, lacks}
-use Rattle.judging.specs.Verdicts.{refusedAs, typeFrom, typeOf, numbered, placedFrom, placed, served, matched, withLibrary, judgeReply}
+use Rattle.judging.specs.Entries.{isOf}
+use Rattle.judging.specs.Verdicts.{refusedAs, typeFrom, typeOf, placed, served, matched, withLibrary, judgeReply}
 
 -- a file's type, line by line
 module _ (l : ℕ) (y : List ℤ) (t : Trace) where
@@ -85,119 +85,6 @@ module _ (file : List ℕ) (w : Walk) (at : ℕ) (s : Typing file w at) where
   pub type-over : length file ≤ at → Library ≡ typeOf file
   unfolding typeFrom
   type-over h = sym (ap typeFrom (going-end file w at (s .going) h)) ∙ s .left
-
--- placements counted
-module _ (n : ℕ) (t : Turn) (x : Bool) (e : x ≡ isOf t (pos 131)) where
-  pub one-more : x ≡ true → n + 1 ≡ numbered n t
-  unfolding numbered
-  one-more h = rw (sym e ∙ h)
-
-  pub no-more : x ≡ false → n ≡ numbered n t
-  unfolding numbered
-  no-more h = rw (sym e ∙ h)
-
-numbered-few : (n : ℕ) (t : Turn) → numbered n t ≤ n + 1
-unfolding numbered
-numbered-few n t = go (isOf t (pos 131))
-  where
-    go : (b : Bool) → cond b (n + 1) n ≤ n + 1
-    go true = omega arith
-    go false = omega arith
-
--- placements, line by line
-module _ (library board : List ℕ) (n l : ℕ) (y : List ℤ) (t : Trace) where
-  abbrev lacksIn : Found → Bool
-  lacksIn f = (isRow f && eqZ (columnAt y 0) (pos 131)) && lacksEntry library board y
-
-  abbrev numberIn : Found → ℕ
-  numberIn f = cond (isRow f && eqZ (columnAt y 0) (pos 131)) (n + 1) n
-
-  placed-on : (f : Found) → stopsBy f ≡ false → lacksIn f ≡ false → placedFrom library board n (traceBy f l y t) ≡ placedFrom library board (numberIn f) t
-  unfolding placedFrom
-  placed-on Row h g = go (eqZ (columnAt y 0) (pos 131)) g
-    where
-      go : (b : Bool) → (b && lacksEntry library board y) ≡ false
-          → cond b (cond (lacksEntry library board y) (verdict 16 0 (n + 1) 1) (placedFrom library board (n + 1) t)) (placedFrom library board n t)
-          ≡ placedFrom library board (cond b (n + 1) n) t
-      go true i = rw i
-      go false i = refl
-  placed-on Nothing h g = refl
-  placed-on (Refused m) h g = absurd (true≢false h)
-
-  placed-here : (f : Found) → lacksIn f ≡ true → placedFrom library board n (traceBy f l y t) ≡ verdict 16 0 (numberIn f) 1
-  unfolding placedFrom
-  placed-here Row g = go (eqZ (columnAt y 0) (pos 131)) g
-    where
-      go : (b : Bool) → (b && lacksEntry library board y) ≡ true
-          → cond b (cond (lacksEntry library board y) (verdict 16 0 (n + 1) 1) (placedFrom library board (n + 1) t)) (placedFrom library board n t)
-          ≡ verdict 16 0 (cond b (n + 1) n) 1
-      go true i = rw i
-      go false i = absurd (false≢true i)
-  placed-here Nothing g = absurd (false≢true g)
-  placed-here (Refused m) g = absurd (false≢true g)
-
-  placed-none : (f : Found) → stopsBy f ≡ true → placedFrom library board n (traceBy f l y t) ≡ verdict 0 0 n 0
-  unfolding placedFrom
-  placed-none Row h = absurd (false≢true h)
-  placed-none Nothing h = absurd (false≢true h)
-  placed-none (Refused m) h = refl
-
--- what is left of a board, behind n placements, gives the verdict of the whole
-pub record Placing (library board : List ℕ) (w : Walk) (at n : ℕ) : Type 0 where
-  pub going : Going board w at
-  pub few : n ≤ at
-  pub small : length library ≤ limit
-  pub left : placedFrom library board n (traceAt board w) ≡ placed library board
-
-pub place-start : (library board : List ℕ) (w : Walk) → length library ≤ limit → length board ≤ limit → w ≡ begun → Placing library board w 0 0
-unfolding placed
-place-start library board w l h e = record { going = going-start board w h e; few = omega arith; small = l; left = rw e }
-
-module _ (library board : List ℕ) (w : Walk) (at n : ℕ) (s : Placing library board w at n) where
-  pub place-steady : Steady board w
-  place-steady = s .going .steady
-
-  pub place-small : length library ≤ limit
-  place-small = s .small
-
-  pub place-count : n < 2 ^ 62
-  place-count = let a = s .few in let b = s .going .here in let c = s .going .steady .within in let d = s .going .steady .small in omega arith
-
-  module _ (h : at < length board) (t : Turn) (e : t ≡ turnOf board w) (y : Bool) (i : y ≡ stopsBy (t .found)) where
-    left-behind : placedFrom library board n (traceBy (t .found) (w .line) (t .row) (traceAt board (t .walk))) ≡ placed library board
-    left-behind = sym (ap (placedFrom library board n) (going-trace board w at (s .going) h t e)) ∙ s .left
-
-    pub place-stop : (v : Verdict) → y ≡ true → v ≡ verdict 0 0 n 0 → v ≡ placed library board
-    place-stop v j k = k ∙ sym (placed-none library board n (w .line) (t .row) (traceAt board (t .walk)) (t .found) (sym i ∙ j)) ∙ left-behind
-
-    module _ (m : ℕ) (c : m ≡ numbered n t) (z : Bool) (d : z ≡ lacks library board t) where
-      pub place-found : (v : Verdict) → z ≡ true → v ≡ verdict 16 0 m 1 → v ≡ placed library board
-      unfolding lacks isOf numbered
-      place-found v j k =
-          k ∙ ap (λ (a : ℕ). verdict 16 0 a 1) c ∙ sym (placed-here library board n (w .line) (t .row) (traceAt board (t .walk)) (t .found) (sym d ∙ j)) ∙ left-behind
-
-      pub place-more : y ≡ false → z ≡ false → Placing library board (t .walk) (t .walk .at) m
-      unfolding lacks isOf numbered
-      place-more j q =
-          let a = going-past board w at (s .going) h t e in
-          let b = s .few in
-          let f : m ≤ n + 1 = rw c (numbered-few n t) in
-          record {
-            going = going-more board w at (s .going) h t e;
-            few = omega arith;
-            small = s .small;
-            left =
-                ap (λ (a : ℕ). placedFrom library board a (traceAt board (t .walk))) c
-                ∙ sym (placed-on library board n (w .line) (t .row) (traceAt board (t .walk)) (t .found) (sym i ∙ j) (sym d ∙ q))
-                ∙ left-behind;
-          }
-
-  pub place-less : (t : Turn) → at < length board → t ≡ turnOf board w → length board - t .walk .at < length board - at
-  place-less t h e = going-less board w at (s .going) h t e
-
-  pub place-over : (v : Verdict) → length board ≤ at → v ≡ verdict 0 0 n 0 → v ≡ placed library board
-  unfolding placedFrom
-  place-over v h e = e ∙ sym (ap (placedFrom library board n) (going-end board w at (s .going) h)) ∙ s .left
 
 -- the kinds of two accepted files
 module _ (library board : List ℕ) (b : FileType) (f : b ≡ typeOf library) (y : Bool) (j : y ≡ isLibrary b) (v : Verdict) where

@@ -1,3 +1,4 @@
 pub mod Entries
 pub mod Stocked
 pub mod Verdicts
+pub mod Parts

@@ -10,6 +10,7 @@ use Rattle.walking.specs.declared.Turn.{Turn}
 use Rattle.walking.specs.Judging.{columnAt}
 use Rattle.walking.specs.Walks.{isRow, Trace, done, stop, skip, row, traceOf}
 use Rattle.naming.specs.Marks.{keyOf}
+use Rattle.naming.specs.Names.{leadsComponent}
 use Rattle.spans.specs.Texts.{sameTexts}
 
 -- the kind of an electrical or a mechanical component, and its code
@@ -61,24 +62,44 @@ showsBy library h mechanical board x e = eqb (e % 8_192) (tagOf h) && holdsName 
 abbrev pub showsName : List ℕ → Bool → List ℕ → List ℤ → ℕ → Bool
 showsName library mechanical board x e = showsBy library (keyOf board x) mechanical board x e
 
--- a row's names under their hash
-unfoldable pub putName : List ℕ → List ℕ → Bool → List ℤ → List ℕ
-putName library places mechanical y = slot.placed places (keyOf library y) (tagged (keyOf library y) (packedRow mechanical y))
+-- a hash is in a part, of so many; in one part there are all
+unfoldable pub isIn : ℕ → ℕ → ℕ → Bool
+isIn h parts part = cond (ltb parts 2) true (eqb (h / 17_592_186_044_416 % parts) part)
+
+-- a row's names under their hash, if that is in the part
+unfoldable pub putName : ℕ → ℕ → List ℕ → List ℕ → Bool → List ℤ → List ℕ
+putName parts part library places mechanical y =
+    cond (isIn (keyOf library y) parts part) (slot.placed places (keyOf library y) (tagged (keyOf library y) (packedRow mechanical y))) places
 
 -- slots with the names of a row, if it is a component's
-unfoldable pub stockedRow : List ℕ → List ℕ → List ℤ → List ℕ
-stockedRow library places y =
-    cond (eqZ (columnAt y 0) (pos 141)) (putName library places false y) (cond (eqZ (columnAt y 0) (pos 151)) (putName library places true y) places)
+unfoldable pub stockedRow : ℕ → ℕ → List ℕ → List ℕ → List ℤ → List ℕ
+stockedRow parts part library places y =
+    cond (eqZ (columnAt y 0) (pos 141)) (putName parts part library places false y)
+    (cond (eqZ (columnAt y 0) (pos 151)) (putName parts part library places true y) places)
 
-unfoldable pub stockedBy : List ℕ → List ℕ → Turn → List ℕ
-stockedBy library places t = cond (isRow (t .found)) (stockedRow library places (t .row)) places
+unfoldable pub stockedBy : ℕ → ℕ → List ℕ → List ℕ → Turn → List ℕ
+stockedBy parts part library places t = cond (isRow (t .found)) (stockedRow parts part library places (t .row)) places
 
 -- with those of all lines
-unfoldable pub stockIn : List ℕ → List ℕ → Trace → List ℕ
-stockIn library places (done w) = places
-stockIn library places (stop n l) = places
-stockIn library places (skip l t) = stockIn library places t
-stockIn library places (row l y t) = stockIn library (stockedRow library places y) t
+unfoldable pub stockIn : ℕ → ℕ → List ℕ → List ℕ → Trace → List ℕ
+stockIn parts part library places (done w) = places
+stockIn parts part library places (stop n l) = places
+stockIn parts part library places (skip l t) = stockIn parts part library places t
+stockIn parts part library places (row l y t) = stockIn parts part library (stockedRow parts part library places y) t
 
-unfoldable pub stockOf : List ℕ → List ℕ → List ℕ
-stockOf library places = stockIn library places (traceOf library)
+unfoldable pub stockOf : ℕ → ℕ → List ℕ → List ℕ → List ℕ
+stockOf parts part library places = stockIn parts part library places (traceOf library)
+
+-- how many components there are with a line more, in the part or not
+unfoldable pub counted : ℕ → Turn → ℕ
+counted n t = cond (isRow (t .found) && leadsComponent (t .row)) (n + 1) n
+
+-- and with all lines, behind n of them
+unfoldable pub componentsIn : ℕ → Trace → ℕ
+componentsIn n (done w) = n
+componentsIn n (stop k l) = n
+componentsIn n (skip l t) = componentsIn n t
+componentsIn n (row l y t) = componentsIn (cond (leadsComponent y) (n + 1) n) t
+
+unfoldable pub componentsOf : List ℕ → ℕ
+componentsOf library = componentsIn 0 (traceOf library)

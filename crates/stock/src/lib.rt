@@ -1,4 +1,5 @@
-// The components of a library in slots, by the hash of their names, so that a placement finds its entry at once.
+// The components of a library in slots, by the hash of their names, so that a placement finds its entry at once. A library with
+// more of them than there are slots is gone through in parts, by the hash too.
 use lines::WIDTH;
 use loops::same;
 use naming::key;
@@ -12,7 +13,7 @@ ghost use Rattle.slots.specs.Looks.{looks};
 ghost use Rattle.slots.specs.Slots.{holds};
 ghost use Rattle.records.specs.Answers.{limit};
 ghost use Rattle.naming.specs.Marks.{keyOf};
-ghost use Rattle.stock.specs.Stock.{codeFor, packOf, packedRow, isNamed, holdsName, tagOf, tagged, showsBy, showsName, putName, stockedRow, stockedBy, stockOf};
+ghost use Rattle.stock.specs.Stock.{codeFor, packOf, packedRow, isNamed, holdsName, tagOf, tagged, showsBy, showsName, isIn, putName, stockedRow, stockedBy, stockOf, counted, componentsOf};
 
 // The code of a kind: an electrical or a mechanical component.
 fn code_for(mechanical: bool) -> u64
@@ -113,59 +114,96 @@ fn shows_name(
     holds_name(library, e / 8_192, mechanical, board, x)
 }
 
-// Puts a row's names into their slot.
-fn put_name(library: &[u8], mechanical: bool, y: [i64; WIDTH], places: &mut [u64])
+// Whether a hash is in a part, of so many: by other bits than those that tell its slot and tag. In one part there are all.
+pub fn is_in(h: u64, parts: u64, part: u64) -> bool
+    ensures { λ r. ⌜ r ≡ isIn h parts part ⌝ }
+{
+    if parts < 2 {
+        return true;
+    }
+    h / 17_592_186_044_416 % parts == part
+}
+
+// Puts a row's names into their slot, if their hash is in the part.
+fn put_name(
+    library: &[u8],
+    parts: u64,
+    part: u64,
+    mechanical: bool,
+    y: [i64; WIDTH],
+    places: &mut [u64],
+)
     requires { ⌜ looks < length (now places) ⌝ }
-    ensures { λ _. ⌜ now (places .exit) ≡ putName (now (library .entry)) (now (places .entry)) mechanical y ⌝ }
+    ensures { λ _. ⌜ now (places .exit) ≡ putName parts part (now (library .entry)) (now (places .entry)) mechanical y ⌝ }
 {
     let h = key(library, y);
-    let e = pack_row(mechanical, y);
-    slots::place(places, h, tagged(h, e));
+    if is_in(h, parts, part) {
+        let e = pack_row(mechanical, y);
+        slots::place(places, h, tagged(h, e));
+    }
 }
 
 // Puts a row's names into their slot, if it is a component's.
-fn put_row(library: &[u8], y: [i64; WIDTH], places: &mut [u64])
+fn put_row(library: &[u8], parts: u64, part: u64, y: [i64; WIDTH], places: &mut [u64])
     requires { ⌜ looks < length (now places) ⌝ }
-    ensures { λ _. ⌜ now (places .exit) ≡ stockedRow (now (library .entry)) (now (places .entry)) y ⌝ }
+    ensures { λ _. ⌜ now (places .exit) ≡ stockedRow parts part (now (library .entry)) (now (places .entry)) y ⌝ }
 {
     if same(y[0], 141) {
-        put_name(library, false, y, places);
+        put_name(library, parts, part, false, y, places);
         return;
     }
     if same(y[0], 151) {
-        put_name(library, true, y, places);
+        put_name(library, parts, part, true, y, places);
     }
 }
 
 // Puts a line's names into their slot, if it is a component's.
-fn put_turn(library: &[u8], t: Turn, places: &mut [u64])
+fn put_turn(library: &[u8], parts: u64, part: u64, t: Turn, places: &mut [u64])
     requires { ⌜ looks < length (now places) ⌝ }
-    ensures { λ _. ⌜ now (places .exit) ≡ stockedBy (now (library .entry)) (now (places .entry)) t ⌝ }
+    ensures { λ _. ⌜ now (places .exit) ≡ stockedBy parts part (now (library .entry)) (now (places .entry)) t ⌝ }
 {
     let found = t.found;
     let row = t.row;
     if steps::is_row(found) {
-        put_row(library, row, places);
+        put_row(library, parts, part, row, places);
     }
 }
 
-// Puts the names of a library's components into their slots.
-pub fn fill(library: &[u8], places: &mut [u64])
+// How many components there are with a line more.
+fn counted(n: u64, t: Turn) -> u64
+    requires { ⌜ n < 2 ^ 62 ⌝ }
+    ensures { λ r. ⌜ r ≡ counted n t ⌝ }
+{
+    let found = t.found;
+    let row = t.row;
+    if steps::is_row(found) & naming::leads_component(row) {
+        return n + 1;
+    }
+    n
+}
+
+// Puts the names of a library's components into their slots, as far as their hashes are in the part; answers how many components
+// the library has in all.
+pub fn fill(library: &[u8], parts: u64, part: u64, places: &mut [u64]) -> u64
     requires { ⌜ (length (now library) ≤ limit) × (looks < length (now places)) ⌝ }
-    ensures { λ _. ⌜ now (places .exit) ≡ stockOf (now (library .entry)) (now (places .entry)) ⌝ }
+    ensures { λ r. ⌜ r ≡ componentsOf (now (library .entry)) ⌝ }
+    ensures { λ _. ⌜ now (places .exit) ≡ stockOf parts part (now (library .entry)) (now (places .entry)) ⌝ }
 {
     let mut w = steps::begin();
     let mut at = 0;
+    let mut n = 0;
     while at < library.len() {
         let t = steps::turn(library, w);
         let found = t.found;
         if steps::stops(found) {
-            return;
+            return n;
         }
-        put_turn(library, t, places);
+        put_turn(library, parts, part, t, places);
+        n = counted(n, t);
         w = t.walk;
         at = w.at;
     }
+    n
 }
 
 // Whether a slot holds a placement's entry, of this kind.

@@ -1,18 +1,18 @@
 -- `stock::fill` meets its contract. Assumes nothing.
 use borrow.Author.Needs.{needs}
-use Rattle.stock.proofs.StockLaws.{stock-start, stock-steady, stock-room, stock-length, stock-less, stock-over, stock-stop, stock-more, Stocking}
+use Rattle.stock.proofs.StockLaws.{stock-start, stock-steady, stock-room, stock-length, stock-few, stock-less, stock-over, count-over, stock-stop, count-stop, stock-more, Stocking}
 use Prim.Native.Nat.{_-_}
 use lib.ListN.{length}
 use Rattle.stock.proofs.fill.Statement.{statement}
 use Rattle.stock.proofs.fill.Tie as tie
 
 abbrev Inv-loop : tie.InvT-loop
-Inv-loop library places₀ w₀ at₀ places w at = Stocking library places₀ places w at
+Inv-loop library parts part places₀ w₀ at₀ n₀ places w at n = Stocking parts part library places₀ places w at n
 
 abbrev μ-loop : tie.MeasureT-loop
-μ-loop library places₀ w₀ at₀ places w at = length library - at
+μ-loop library parts part places₀ w₀ at₀ n₀ places w at n = length library - at
 
-ruleset laws = (stock-start, stock-steady, stock-room, stock-length, stock-less, stock-over, stock-stop, stock-more, needs)
+ruleset laws = (stock-start, stock-steady, stock-room, stock-length, stock-few, stock-less, stock-over, count-over, stock-stop, count-stop, stock-more, needs)
 
 begin-requires : tie.Need-begin-requires Inv-loop μ-loop
 begin-requires c κs = search laws
@@ -35,6 +35,9 @@ returns c = search laws
 put-turn-requires : tie.Need-put-turn-requires Inv-loop μ-loop
 put-turn-requires c κs = search laws
 
+counted-requires : tie.Need-counted-requires Inv-loop μ-loop
+counted-requires c κs = search laws
+
 loop-less : tie.Need-loop-less Inv-loop μ-loop
 loop-less c = search laws
 
@@ -50,4 +53,4 @@ returns-2 c = search laws
 pub fill-spec : {M : Type 1} → statement M
 fill-spec =
     tie.close
-    (tie.spec Inv-loop μ-loop begin-requires loop-holds turn-requires stops-requires same-length returns put-turn-requires loop-less loop-again same-length-2 returns-2)
+    (tie.spec Inv-loop μ-loop begin-requires loop-holds turn-requires stops-requires same-length returns put-turn-requires counted-requires loop-less loop-again same-length-2 returns-2)

@@ -1,6 +1,6 @@
 -- `stock::holds_name` meets its contract. Assumes nothing.
 use borrow.Author.Needs.{needs}
-use Rattle.stock.proofs.StockLaws.{other-kind, same-kind}
+use Rattle.stock.proofs.PackLaws.{other-kind, same-kind}
 use Rattle.stock.proofs.holds_name.Statement.{statement}
 use Rattle.stock.proofs.holds_name.Tie as tie
 

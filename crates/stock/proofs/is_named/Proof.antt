@@ -1,6 +1,6 @@
 -- `stock::is_named` meets its contract. Assumes nothing.
 use borrow.Author.Needs.{needs}
-use Rattle.stock.proofs.StockLaws.{named-not, named-by}
+use Rattle.stock.proofs.PackLaws.{named-not, named-by}
 use Rattle.stock.proofs.is_named.Statement.{statement}
 use Rattle.stock.proofs.is_named.Tie as tie
 

@@ -1,6 +1,6 @@
 -- `stock::pack` meets its contract. Assumes nothing.
 use borrow.Author.Needs.{needs}
-use Rattle.stock.proofs.StockLaws.{pack-far, pack-first-long, pack-second-long, pack-before, pack-apart, pack-is, pack-fits}
+use Rattle.stock.proofs.PackLaws.{pack-far, pack-first-long, pack-second-long, pack-before, pack-apart, pack-is, pack-fits}
 use Rattle.stock.proofs.pack.Statement.{statement}
 use Rattle.stock.proofs.pack.Tie as tie
 

@@ -1,6 +1,6 @@
 -- `stock::pack_row` meets its contract. Assumes nothing.
 use borrow.Author.Needs.{needs}
-use Rattle.stock.proofs.StockLaws.{pack-row}
+use Rattle.stock.proofs.PackLaws.{pack-row}
 use Rattle.stock.proofs.pack_row.Statement.{statement}
 use Rattle.stock.proofs.pack_row.Tie as tie
 

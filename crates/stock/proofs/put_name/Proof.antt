@@ -1,13 +1,17 @@
 -- `stock::put_name` meets its contract. Assumes nothing.
 use borrow.Author.Needs.{needs}
-use Rattle.stock.proofs.StockLaws.{pack-small, name-put, placed-same-length}
+use Rattle.stock.proofs.PackLaws.{pack-small}
+use Rattle.stock.proofs.StockLaws.{name-put, name-not, placed-same-length}
 use Rattle.stock.proofs.put_name.Statement.{statement}
 use Rattle.stock.proofs.put_name.Tie as tie
 
-ruleset laws = (pack-small, name-put, placed-same-length, needs)
+ruleset laws = (pack-small, name-put, name-not, placed-same-length, needs)
 
 key-requires : tie.Need-key-requires
 key-requires c κs = search laws
+
+is-in-requires : tie.Need-is-in-requires
+is-in-requires c κs = search laws
 
 pack-row-requires : tie.Need-pack-row-requires
 pack-row-requires c κs = search laws
@@ -24,7 +28,10 @@ same-length c = search laws
 returns : tie.Need-returns
 returns c = search laws
 
+returns-2 : tie.Need-returns-2
+returns-2 c = search laws
+
 pub put-name-spec : {M : Type 1} → statement M
 put-name-spec =
     tie.close
-    (tie.spec key-requires pack-row-requires tagged-requires place-requires same-length returns)
+    (tie.spec key-requires is-in-requires pack-row-requires tagged-requires place-requires same-length returns returns-2)

@@ -22,6 +22,4 @@ returns-2 : tie.Need-returns-2
 returns-2 c = search laws
 
 pub put-turn-spec : {M : Type 1} → statement M
-put-turn-spec =
-    tie.close
-    (tie.spec is-row-requires put-row-requires same-length returns returns-2)
+put-turn-spec = tie.close (tie.spec is-row-requires put-row-requires same-length returns returns-2)

@@ -1,6 +1,6 @@
 -- `stock::shows_name` meets its contract. Assumes nothing.
 use borrow.Author.Needs.{needs}
-use Rattle.stock.proofs.StockLaws.{other-tag, same-tag}
+use Rattle.stock.proofs.PackLaws.{other-tag, same-tag}
 use Rattle.stock.proofs.shows_name.Statement.{statement}
 use Rattle.stock.proofs.shows_name.Tie as tie
 

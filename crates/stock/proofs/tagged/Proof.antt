@@ -1,6 +1,6 @@
 -- `stock::tagged` meets its contract. Assumes nothing.
 use borrow.Author.Needs.{needs}
-use Rattle.stock.proofs.StockLaws.{tag-fits, tag-is, tag-room}
+use Rattle.stock.proofs.PackLaws.{tag-fits, tag-is, tag-room}
 use Rattle.stock.proofs.tagged.Statement.{statement}
 use Rattle.stock.proofs.tagged.Tie as tie
 

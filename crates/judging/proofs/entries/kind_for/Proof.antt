@@ -1,6 +1,6 @@
 -- `judging::entries::kind_for` meets its contract. Assumes nothing.
 use borrow.Author.Needs.{needs}
-use Rattle.stock.proofs.StockLaws.{kind-mechanical, kind-electrical}
+use Rattle.stock.proofs.PackLaws.{kind-mechanical, kind-electrical}
 use Rattle.judging.proofs.entries.kind_for.Statement.{statement}
 use Rattle.judging.proofs.entries.kind_for.Tie as tie
 

@@ -1,16 +1,17 @@
--- `judging::whole::placed_by` meets its contract. Assumes nothing.
+-- `judging::parts::placed_by` meets its contract. Assumes nothing.
 use borrow.Author.Needs.{needs}
-use Rattle.judging.proofs.VerdictLaws.{place-start, place-steady, place-small, place-count, place-stop, place-found, place-more, place-less, place-over, Placing}
+use Rattle.judging.proofs.PlaceLaws.{place-start, place-steady, place-small, place-count, place-stop, place-found, place-more, place-less, place-over, Placing}
 use Prim.Native.Nat.{_-_}
 use lib.ListN.{length}
-use Rattle.judging.proofs.whole.placed_by.Statement.{statement}
-use Rattle.judging.proofs.whole.placed_by.Tie as tie
+use Rattle.judging.specs.Parts.{asked}
+use Rattle.judging.proofs.parts.placed_by.Statement.{statement}
+use Rattle.judging.proofs.parts.placed_by.Tie as tie
 
 abbrev Inv-loop : tie.InvT-loop
-Inv-loop library places board w₀ at₀ n₀ w at n = Placing library board w at n
+Inv-loop library places board parts part w₀ at₀ n₀ w at n = Placing (asked parts part board) library board w at n
 
 abbrev μ-loop : tie.MeasureT-loop
-μ-loop library places board w₀ at₀ n₀ w at n = length board - at
+μ-loop library places board parts part w₀ at₀ n₀ w at n = length board - at
 
 ruleset laws = (place-start, place-steady, place-small, place-count, place-stop, place-found, place-more, place-less, place-over, needs)
 
@@ -35,8 +36,8 @@ returns c = search laws
 numbered-requires : tie.Need-numbered-requires Inv-loop μ-loop
 numbered-requires c κs = search laws
 
-lacks-requires : tie.Need-lacks-requires Inv-loop μ-loop
-lacks-requires c κs = search laws
+is-missed-requires : tie.Need-is-missed-requires Inv-loop μ-loop
+is-missed-requires c κs = search laws
 
 verdict-requires-2 : tie.Need-verdict-requires-2 Inv-loop μ-loop
 verdict-requires-2 c κs = search laws
@@ -59,4 +60,4 @@ returns-3 c = search laws
 pub placed-by-spec : {M : Type 1} → statement M
 placed-by-spec =
     tie.close
-    (tie.spec Inv-loop μ-loop begin-requires loop-holds turn-requires stops-requires verdict-requires returns numbered-requires lacks-requires verdict-requires-2 returns-2 loop-less loop-again verdict-requires-3 returns-3)
+    (tie.spec Inv-loop μ-loop begin-requires loop-holds turn-requires stops-requires verdict-requires returns numbered-requires is-missed-requires verdict-requires-2 returns-2 loop-less loop-again verdict-requires-3 returns-3)

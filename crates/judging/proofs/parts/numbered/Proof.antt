@@ -1,8 +1,8 @@
--- `judging::whole::numbered` meets its contract. Assumes nothing.
+-- `judging::parts::numbered` meets its contract. Assumes nothing.
 use borrow.Author.Needs.{needs}
-use Rattle.judging.proofs.VerdictLaws.{one-more, no-more}
-use Rattle.judging.proofs.whole.numbered.Statement.{statement}
-use Rattle.judging.proofs.whole.numbered.Tie as tie
+use Rattle.judging.proofs.PlaceLaws.{one-more, no-more}
+use Rattle.judging.proofs.parts.numbered.Statement.{statement}
+use Rattle.judging.proofs.parts.numbered.Tie as tie
 
 ruleset laws = (one-more, no-more, needs)
 
@@ -19,6 +19,4 @@ returns-2 : tie.Need-returns-2
 returns-2 c = search laws
 
 pub numbered-spec : {M : Type 1} → statement M
-numbered-spec =
-    tie.close
-    (tie.spec is-of-requires add-result returns returns-2)
+numbered-spec = tie.close (tie.spec is-of-requires add-result returns returns-2)

@@ -1,10 +1,11 @@
--- `judging::whole::placed_few` meets its contract. Assumes nothing.
+-- `judging::parts::placed_few` meets its contract. Assumes nothing.
 use borrow.Author.Needs.{needs}
 use Rattle.judging.proofs.StockTrue.{filled-few}
-use Rattle.judging.proofs.whole.placed_few.Statement.{statement}
-use Rattle.judging.proofs.whole.placed_few.Tie as tie
+use Rattle.judging.proofs.PartLaws.{one-part}
+use Rattle.judging.proofs.parts.placed_few.Statement.{statement}
+use Rattle.judging.proofs.parts.placed_few.Tie as tie
 
-ruleset laws = (filled-few, needs)
+ruleset laws = (filled-few, one-part, needs)
 
 slice-aggregate-fill : tie.Need-slice-aggregate-fill
 slice-aggregate-fill c = search laws
