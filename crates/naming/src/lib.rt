@@ -10,8 +10,8 @@ ghost use Rattle.records.specs.Answers.{limit};
 ghost use Rattle.naming.specs.Names.{sameNames, leadsComponent, isNamed, namesSame, isUsed, repeatsAt};
 ghost use Rattle.naming.specs.Marks.{keyOf, markedBy, Telling};
 
-// How many marks of names a walk has at hand, 496 KiB of them; and how many are enough for fewer than so many bytes, or so many
-// numbers of rows.
+// How many words a walk has at hand for the marks of names, 496 KiB of them; and how many are enough for fewer than so many bytes,
+// or so many numbers of rows.
 pub const MARKS: usize = 253_952;
 
 pub const FEW: usize = 4_096;
