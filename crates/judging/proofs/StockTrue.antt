@@ -41,9 +41,9 @@ abbrev namesOf : List ℕ → ℕ → ℕ → ℕ → ℕ → List ℕ → List 
 namesOf library a l b m board x = sameTexts library (pos a) (pos l) board (columnAt x 1) (columnAt x 2) && sameTexts library (pos b) (pos m) board (columnAt x 3) (columnAt x 4)
 
 -- a number tells what was put into it
-module _ (library : List ℕ) (a l b m : ℕ) (board : List ℕ) (x : List ℤ) (h1 : a ≤ 16_777_216) (h2 : l ≤ 255) (h3 : m ≤ 255) (h4 : a + l ≤ b) (h5 : b - (a + l) ≤ 255) (c : ℕ) (hc : c ≤ 2) where
+module _ (library : List ℕ) (a l b m : ℕ) (board : List ℕ) (x : List ℤ) (h1 : a ≤ 16_777_216) (h2 : l ≤ 1_023) (h3 : m ≤ 1_023) (h4 : a + l ≤ b) (h5 : b - (a + l) ≤ 1_023) (c : ℕ) (hc : c ≤ 2) where
   abbrev number : ℕ
-  number = (((a * 256 + l) * 256 + (b - (a + l))) * 256 + m) * 4 + c
+  number = (((a * 1_024 + l) * 1_024 + (b - (a + l))) * 1_024 + m) * 4 + c
 
   code-out : number % 4 ≡ c
   code-out = omega arith
@@ -51,10 +51,10 @@ module _ (library : List ℕ) (a l b m : ℕ) (board : List ℕ) (x : List ℤ) 
   names-out : isNamed library number board x ≡ namesOf library a l b m board x
   unfolding isNamed
   names-out =
-      let e1 : number / 67_108_864 ≡ a = omega arith in
-      let e2 : number / 262_144 % 256 ≡ l = omega arith in
-      let e3 : number / 1_024 % 256 ≡ b - (a + l) = omega arith in
-      let e4 : number / 4 % 256 ≡ m = omega arith in
+      let e1 : number / 4_294_967_296 ≡ a = omega arith in
+      let e2 : number / 4_194_304 % 1_024 ≡ l = omega arith in
+      let e3 : number / 4_096 % 1_024 ≡ b - (a + l) = omega arith in
+      let e4 : number / 4 % 1_024 ≡ m = omega arith in
       let e5 : a + l + (b - (a + l)) ≡ b = omega arith in
       rw (e1, e2, e3, e4, e5)
 
@@ -73,11 +73,11 @@ pub record Packed (library : List ℕ) (j k : Bool) (a l b m : ℕ) (board : Lis
   pub kind : j ≡ k
   pub names : namesOf library a l b m board x ≡ true
 
-whole-true : (library : List ℕ) (j k : Bool) (a l b m : ℕ) (board : List ℕ) (x : List ℤ) → a ≤ 16_777_216 → l ≤ 255 → m ≤ 255 → a + l ≤ b → b - (a + l) ≤ 255
-    → holdsName library j board x ((((a * 256 + l) * 256 + (b - (a + l))) * 256 + m) * 4 + codeFor k) ≡ true → Packed library j k a l b m board x
+whole-true : (library : List ℕ) (j k : Bool) (a l b m : ℕ) (board : List ℕ) (x : List ℤ) → a ≤ 16_777_216 → l ≤ 1_023 → m ≤ 1_023 → a + l ≤ b → b - (a + l) ≤ 1_023
+    → holdsName library j board x ((((a * 1_024 + l) * 1_024 + (b - (a + l))) * 1_024 + m) * 4 + codeFor k) ≡ true → Packed library j k a l b m board x
 unfolding holdsName
 whole-true library j k a l b m board x h1 h2 h3 h4 h5 h =
-    let n : ℕ = (((a * 256 + l) * 256 + (b - (a + l))) * 256 + m) * 4 + codeFor k in
+    let n : ℕ = (((a * 1_024 + l) * 1_024 + (b - (a + l))) * 1_024 + m) * 4 + codeFor k in
     let o : n % 4 ≡ codeFor k = code-out library a l b m board x h1 h2 h3 h4 h5 (codeFor k) (code-low k) in
     record {
       kind = code-is j k (ap (λ (c : ℕ). eqb c (codeFor j)) (sym o) ∙ and-left (eqb (n % 4) (codeFor j)) (isNamed library n board x) h);
@@ -87,20 +87,20 @@ whole-true library j k a l b m board x h1 h2 h3 h4 h5 h =
 pack-true : (library : List ℕ) (j k : Bool) (a l b m : ℕ) (board : List ℕ) (x : List ℤ) → holdsName library j board x (packOf k a l b m) ≡ true → Packed library j k a l b m board x
 unfolding packOf
 pack-true library j k a l b m board x =
-    go (ltb 16_777_216 a) (ltb 255 l) (ltb 255 m) (ltb b (a + l)) (ltb 255 (b - (a + l))) refl refl refl refl refl
+    go (ltb 16_777_216 a) (ltb 1_023 l) (ltb 1_023 m) (ltb b (a + l)) (ltb 1_023 (b - (a + l))) refl refl refl refl refl
   where
     no : holdsName library j board x 0 ≡ true → Packed library j k a l b m board x
     no h = absurd (false≢true (sym (empty-none library j board x) ∙ h))
 
-    go : (c1 c2 c3 c4 c5 : Bool) → ltb 16_777_216 a ≡ c1 → ltb 255 l ≡ c2 → ltb 255 m ≡ c3 → ltb b (a + l) ≡ c4 → ltb 255 (b - (a + l)) ≡ c5
-        → holdsName library j board x (cond c1 0 (cond c2 0 (cond c3 0 (cond c4 0 (cond c5 0 ((((a * 256 + l) * 256 + (b - (a + l))) * 256 + m) * 4 + codeFor k)))))) ≡ true → Packed library j k a l b m board x
+    go : (c1 c2 c3 c4 c5 : Bool) → ltb 16_777_216 a ≡ c1 → ltb 1_023 l ≡ c2 → ltb 1_023 m ≡ c3 → ltb b (a + l) ≡ c4 → ltb 1_023 (b - (a + l)) ≡ c5
+        → holdsName library j board x (cond c1 0 (cond c2 0 (cond c3 0 (cond c4 0 (cond c5 0 ((((a * 1_024 + l) * 1_024 + (b - (a + l))) * 1_024 + m) * 4 + codeFor k)))))) ≡ true → Packed library j k a l b m board x
     go true c2 c3 c4 c5 e1 e2 e3 e4 e5 h = no h
     go false true c3 c4 c5 e1 e2 e3 e4 e5 h = no h
     go false false true c4 c5 e1 e2 e3 e4 e5 h = no h
     go false false false true c5 e1 e2 e3 e4 e5 h = no h
     go false false false false true e1 e2 e3 e4 e5 h = no h
     go false false false false false e1 e2 e3 e4 e5 h =
-        whole-true library j k a l b m board x (ltb-false 16_777_216 a e1) (ltb-false 255 l e2) (ltb-false 255 m e3) (ltb-false b (a + l) e4) (ltb-false 255 (b - (a + l)) e5) h
+        whole-true library j k a l b m board x (ltb-false 16_777_216 a e1) (ltb-false 1_023 l e2) (ltb-false 1_023 m e3) (ltb-false b (a + l) e4) (ltb-false 1_023 (b - (a + l)) e5) h
 
 -- two texts by their starts and lengths without sign
 row-true : (library : List ℕ) (j k : Bool) (y : List ℤ) (board : List ℕ) (x : List ℤ) → holdsName library j board x (packedRow k y) ≡ true → (j ≡ k) × (sameNames library y board x ≡ true)
@@ -114,9 +114,9 @@ shown-true : (library : List ℕ) (j k : Bool) (h : ℕ) (y : List ℤ) (board :
 unfolding showsBy tagged
 shown-true library j k h y board x e =
     let p : ℕ = packedRow k y in
-    let z : (p * 8_192 + tagOf h) / 8_192 ≡ p = omega arith in
+    let z : (p * 128 + tagOf h) / 128 ≡ p = omega arith in
     row-true library j k y board x
-    (sym (ap (holdsName library j board x) z) ∙ and-right (eqb ((p * 8_192 + tagOf h) % 8_192) (tagOf (keyOf board x))) (holdsName library j board x ((p * 8_192 + tagOf h) / 8_192)) e)
+    (sym (ap (holdsName library j board x) z) ∙ and-right (eqb ((p * 128 + tagOf h) % 128) (tagOf (keyOf board x))) (holdsName library j board x ((p * 128 + tagOf h) / 128)) e)
 
 -- a row of the library, in the slots
 module _ (parts part : ℕ) (library places : List ℕ) (y : List ℤ) (s : Stocked library places) where

@@ -26,11 +26,11 @@ codeFor false = 1
 unfoldable pub packOf : Bool → ℕ → ℕ → ℕ → ℕ → ℕ
 packOf mechanical a l b m =
     cond (ltb 16_777_216 a) 0
-    (cond (ltb 255 l) 0
-    (cond (ltb 255 m) 0
+    (cond (ltb 1_023 l) 0
+    (cond (ltb 1_023 m) 0
     (cond (ltb b (a + l)) 0
-    (cond (ltb 255 (b - (a + l))) 0
-    ((((a * 256 + l) * 256 + (b - (a + l))) * 256 + m) * 4 + codeFor mechanical)))))
+    (cond (ltb 1_023 (b - (a + l))) 0
+    ((((a * 1_024 + l) * 1_024 + (b - (a + l))) * 1_024 + m) * 4 + codeFor mechanical)))))
 
 unfoldable pub packedRow : Bool → List ℤ → ℕ
 packedRow mechanical y = packOf mechanical (natAbs (columnAt y 1)) (natAbs (columnAt y 2)) (natAbs (columnAt y 3)) (natAbs (columnAt y 4))
@@ -38,10 +38,10 @@ packedRow mechanical y = packOf mechanical (natAbs (columnAt y 1)) (natAbs (colu
 -- the names in such a number are those of a board's row x
 unfoldable pub isNamed : List ℕ → ℕ → List ℕ → List ℤ → Bool
 isNamed library e board x =
-    let a = e / 67_108_864 in
-    let l = e / 262_144 % 256 in
+    let a = e / 4_294_967_296 in
+    let l = e / 4_194_304 % 1_024 in
     sameTexts library (pos a) (pos l) board (columnAt x 1) (columnAt x 2)
-    && sameTexts library (pos (a + l + e / 1_024 % 256)) (pos (e / 4 % 256)) board (columnAt x 3) (columnAt x 4)
+    && sameTexts library (pos (a + l + e / 4_096 % 1_024)) (pos (e / 4 % 1_024)) board (columnAt x 3) (columnAt x 4)
 
 -- and its kind is wanted
 unfoldable pub holdsName : List ℕ → Bool → List ℕ → List ℤ → ℕ → Bool
@@ -49,14 +49,14 @@ holdsName library mechanical board x e = eqb (e % 4) (codeFor mechanical) && isN
 
 -- some bits of a hash, others than those that tell its slot
 abbrev pub tagOf : ℕ → ℕ
-tagOf h = h / 2_147_483_648 % 8_192
+tagOf h = h / 2_147_483_648 % 128
 
 -- such a number with its name's tag behind it, so that most others are told apart without a look at their names
 unfoldable pub tagged : ℕ → ℕ → ℕ
-tagged h e = e * 8_192 + tagOf h
+tagged h e = e * 128 + tagOf h
 
 unfoldable pub showsBy : List ℕ → ℕ → Bool → List ℕ → List ℤ → ℕ → Bool
-showsBy library h mechanical board x e = eqb (e % 8_192) (tagOf h) && holdsName library mechanical board x (e / 8_192)
+showsBy library h mechanical board x e = eqb (e % 128) (tagOf h) && holdsName library mechanical board x (e / 128)
 
 -- a slot's number is the entry of a board's row x, of this kind
 abbrev pub showsName : List ℕ → Bool → List ℕ → List ℤ → ℕ → Bool

@@ -29,20 +29,20 @@ fn pack(mechanical: bool, a: u64, l: u64, b: u64, m: u64) -> u64
     if 16_777_216 < a {
         return 0;
     }
-    if 255 < l {
+    if 1_023 < l {
         return 0;
     }
-    if 255 < m {
+    if 1_023 < m {
         return 0;
     }
     if b < a + l {
         return 0;
     }
     let gap = b - (a + l);
-    if 255 < gap {
+    if 1_023 < gap {
         return 0;
     }
-    (((a * 256 + l) * 256 + gap) * 256 + m) * 4 + code_for(mechanical)
+    (((a * 1_024 + l) * 1_024 + gap) * 1_024 + m) * 4 + code_for(mechanical)
 }
 
 // The names of a component's row as one number.
@@ -62,10 +62,10 @@ fn pack_row(mechanical: bool, y: [i64; WIDTH]) -> u64
 fn is_named(library: &[u8], e: u64, board: &[u8], x: [i64; WIDTH]) -> bool
     ensures { λ r. ⌜ r ≡ isNamed (now (library .entry)) e (now (board .entry)) x ⌝ }
 {
-    let a = e / 67_108_864;
-    let l = e / 262_144 % 256;
-    let b = a + l + e / 1_024 % 256;
-    let m = e / 4 % 256;
+    let a = e / 4_294_967_296;
+    let l = e / 4_194_304 % 1_024;
+    let b = a + l + e / 4_096 % 1_024;
+    let m = e / 4 % 1_024;
     if spans::same_texts(library, a as i64, l as i64, board, x[1], x[2]) {
         return spans::same_texts(library, b as i64, m as i64, board, x[3], x[4]);
     }
@@ -86,15 +86,15 @@ fn holds_name(library: &[u8], e: u64, mechanical: bool, board: &[u8], x: [i64; W
 fn tag_of(h: u64) -> u64
     ensures { λ r. ⌜ r ≡ tagOf h ⌝ }
 {
-    h / 2_147_483_648 % 8_192
+    h / 2_147_483_648 % 128
 }
 
 // Such a number with its name's tag behind it, so that most others are told apart without a look at their names.
 fn tagged(h: u64, e: u64) -> u64
-    requires { ⌜ e < 2 ^ 51 ⌝ }
+    requires { ⌜ e < 2 ^ 57 ⌝ }
     ensures { λ r. ⌜ r ≡ tagged h e ⌝ }
 {
-    e * 8_192 + tag_of(h)
+    e * 128 + tag_of(h)
 }
 
 // Whether a slot's number is a placement's entry, of this kind; h is the hash of the placement's name.
@@ -108,10 +108,10 @@ fn shows_name(
 ) -> bool
     ensures { λ r. ⌜ r ≡ showsBy (now (library .entry)) h mechanical (now (board .entry)) x e ⌝ }
 {
-    if e % 8_192 != tag_of(h) {
+    if e % 128 != tag_of(h) {
         return false;
     }
-    holds_name(library, e / 8_192, mechanical, board, x)
+    holds_name(library, e / 128, mechanical, board, x)
 }
 
 // Whether a hash is in a part, of so many: by other bits than those that tell its slot and tag. In one part there are all.
