@@ -72,6 +72,8 @@ use Rattle.slots.proofs.hash.Kinds as slots-hash
 use Rattle.slots.proofs.hash.Reads as slots-hash-says
 use Rattle.slots.proofs.slot_of.Kinds as slots-slot-of
 use Rattle.slots.proofs.slot_of.Reads as slots-slot-of-says
+use Rattle.slots.proofs.marks.may_hold.Kinds as slots-marks-may-hold
+use Rattle.slots.proofs.marks.may_hold.Reads as slots-marks-may-hold-says
 use Rattle.slots.proofs.marks.mark.Kinds as slots-marks-mark
 use Rattle.slots.proofs.marks.mark.Reads as slots-marks-mark-says
 use Rattle.slots.proofs.place.Kinds as slots-place
@@ -201,6 +203,9 @@ tight-slots-hash κs a r q ws us e f = (e ∙ sym f, refl)
 
 pub tight-slots-slot-of : Tight 0 slots-slot-of.ps slots-slot-of.r slots-slot-of-says.Learnt
 tight-slots-slot-of κs a r q ws us e f = (e ∙ sym f, refl)
+
+pub tight-slots-marks-may-hold : Tight 1 slots-marks-may-hold.ps slots-marks-may-hold.r slots-marks-may-hold-says.Learnt
+tight-slots-marks-may-hold κs a r q ws us e f = (e ∙ sym f, refl)
 
 pub tight-slots-marks-mark : Tight 1 slots-marks-mark.ps slots-marks-mark.r slots-marks-mark-says.Learnt
 tight-slots-marks-mark κs a r q ws us e f = (e .0 ∙ sym (f .0), λ i. ((e .1 ∙ sym (f .1)) i, ws .1))

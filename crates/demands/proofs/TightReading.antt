@@ -18,10 +18,16 @@ use Rattle.naming.proofs.same_names.Kinds as naming-same-names
 use Rattle.naming.proofs.same_names.Reads as naming-same-names-says
 use Rattle.naming.proofs.leads_component.Kinds as naming-leads-component
 use Rattle.naming.proofs.leads_component.Reads as naming-leads-component-says
+use Rattle.naming.proofs.names_component.Kinds as naming-names-component
+use Rattle.naming.proofs.names_component.Reads as naming-names-component-says
 use Rattle.naming.proofs.key.Kinds as naming-key
 use Rattle.naming.proofs.key.Reads as naming-key-says
-use Rattle.naming.proofs.repeats.Kinds as naming-repeats
-use Rattle.naming.proofs.repeats.Reads as naming-repeats-says
+use Rattle.naming.proofs.is_doubtful.Kinds as naming-is-doubtful
+use Rattle.naming.proofs.is_doubtful.Reads as naming-is-doubtful-says
+use Rattle.naming.proofs.is_again.Kinds as naming-is-again
+use Rattle.naming.proofs.is_again.Reads as naming-is-again-says
+use Rattle.naming.proofs.first_repeat.Kinds as naming-first-repeat
+use Rattle.naming.proofs.first_repeat.Reads as naming-first-repeat-says
 use Rattle.reading.proofs.rows.put_row.Kinds as reading-rows-put-row
 use Rattle.reading.proofs.rows.put_row.Reads as reading-rows-put-row-says
 use Rattle.reading.proofs.rows.put_rows.Kinds as reading-rows-put-rows
@@ -63,11 +69,21 @@ tight-naming-same-names κs a r q ws us e f = (e ∙ sym f, refl)
 pub tight-naming-leads-component : Tight 0 naming-leads-component.ps naming-leads-component.r naming-leads-component-says.Learnt
 tight-naming-leads-component κs a r q ws us e f = (e ∙ sym f, refl)
 
+pub tight-naming-names-component : Tight 0 naming-names-component.ps naming-names-component.r naming-names-component-says.Learnt
+tight-naming-names-component κs a r q ws us e f = (e ∙ sym f, refl)
+
 pub tight-naming-key : Tight 1 naming-key.ps naming-key.r naming-key-says.Learnt
 tight-naming-key κs a r q ws us e f = (e ∙ sym f, refl)
 
-pub tight-naming-repeats : Tight 2 naming-repeats.ps naming-repeats.r naming-repeats-says.Learnt
-tight-naming-repeats κs a r q ws us e f = (e .0 ∙ sym (f .0), λ i. (ws .0, (ws .1 .0, (ws .1 .1 .0, ((e .1 ∙ sym (f .1)) i, ws .1 .1 .1 .1)))))
+pub tight-naming-is-doubtful : Tight 3 naming-is-doubtful.ps naming-is-doubtful.r naming-is-doubtful-says.Learnt
+tight-naming-is-doubtful κs a r q ws us e f =
+    (e .0 ∙ sym (f .0), λ i. (ws .0, (ws .1 .0, (ws .1 .1 .0, ((e .1 .0 ∙ sym (f .1 .0)) i, ((e .1 .1 ∙ sym (f .1 .1)) i, ws .1 .1 .1 .1 .1))))))
+
+pub tight-naming-is-again : Tight 3 naming-is-again.ps naming-is-again.r naming-is-again-says.Learnt
+tight-naming-is-again κs a r q ws us e f = (e .0 ∙ sym (f .0), λ i. (ws .0, (ws .1 .0, (ws .1 .1 .0, (ws .1 .1 .1 .0, ((e .1 ∙ sym (f .1)) i, ws .1 .1 .1 .1 .1))))))
+
+pub tight-naming-first-repeat : Tight 2 naming-first-repeat.ps naming-first-repeat.r naming-first-repeat-says.Learnt
+tight-naming-first-repeat κs a r q ws us e f = (e ∙ sym f, refl)
 
 -- `reading`
 

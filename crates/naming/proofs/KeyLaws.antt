@@ -1,8 +1,8 @@
 -- Laws of the hash of a name, and of the marks that a line leaves.
 use Prim.Native.Nat.{ℕ, _-_, _<_}
-use mathlib.Core.Path.{_≡_, sym, ap, _∙_}
+use mathlib.Core.Path.{_≡_, refl, sym, ap, _∙_}
 use mathlib.Core.List.{List}
-use mathlib.Core.Bool.{Bool, true, false, not}
+use mathlib.Core.Bool.{Bool, true, false, not, _&&_, true≢false, false≢true}
 use mir.Syntax.{w64}
 use mir.Val.{SFits}
 use mir.ValLaws.{toZ-ofZ}
@@ -13,12 +13,13 @@ use Rattle.text.proofs.Lists.{and-left, and-right}
 use Rattle.form.proofs.CompareLaws.{same-eq}
 use Rattle.slots.specs.Hashes.{hashed}
 use Rattle.slots.specs.Marks.{mayHold, marked}
+use Rattle.slots.proofs.MarkLaws.{marking-length}
 use Rattle.walking.specs.declared.Turn.{Turn}
 use Rattle.walking.specs.Judging.{columnAt}
 use Rattle.walking.proofs.LineLaws.{column}
 use Rattle.spans.specs.Texts.{textAt, sameTexts}
-use Rattle.naming.specs.Names.{sameNames, isNamed, isUsed, repeatsAt}
-use Rattle.naming.specs.Marks.{keyOf, markedBy, Telling}
+use Rattle.naming.specs.Names.{sameNames, isNamed, isUsed}
+use Rattle.naming.specs.Marks.{keyOf, heldIf, markedIf, repeatsAmong, Telling}
 
 pub key-is : (file : List ℕ) (x : List ℤ) (s r : ℕ) → SFits w64 (columnAt x 1) → SFits w64 (columnAt x 2) → SFits w64 (columnAt x 3) → SFits w64 (columnAt x 4)
     → s ≡ hashed 0 (textAt file (column x 1) (column x 2)) → r ≡ hashed s (textAt file (column x 3) (column x 4)) → r ≡ keyOf file x
@@ -35,30 +36,101 @@ same-key f x h y e =
     ap (λ (s : List ℕ). hashed (hashed 0 s) (textAt f (columnAt x 3) (columnAt x 4))) a
     ∙ ap (λ (s : List ℕ). hashed (hashed 0 (textAt h (columnAt y 1) (columnAt y 2))) s) b
 
--- one line, as the code marks it
-module _ (file : List ℕ) (t : Turn) (marks : List ℕ) (y : Bool) (e : y ≡ isNamed t) where
-  module _ (h : not y ≡ true) where
-    pub unnamed-repeats : (n : ℕ) → false ≡ repeatsAt file n t
-    unfolding repeatsAt
-    unnamed-repeats n = rw (sym e ∙ not-true y h)
+-- a name, where there is one, as the code marks it
+module _ (b : Bool) (xs : List ℕ) (g : ℕ) where
+  module _ (h : not b ≡ true) where
+    pub none-held : false ≡ heldIf b xs g
+    unfolding heldIf
+    none-held = rw (not-true b h)
 
-    pub unnamed-marks : marks ≡ markedBy file marks t
-    unfolding markedBy
-    unnamed-marks = rw (sym e ∙ not-true y h)
+    pub none-marked : xs ≡ markedIf b xs g
+    unfolding markedIf
+    none-marked = rw (not-true b h)
 
-  module _ (h : not y ≡ false) (k : ℕ) (i : k ≡ keyOf file (t .row)) where
-    pub named-marks : (ys : List ℕ) → ys ≡ marked marks k → ys ≡ markedBy file marks t
-    unfolding markedBy
-    named-marks ys j = rw (sym e ∙ not-false y h) (j ∙ rw i)
+    pub none-again : (ys : List ℕ) → false ≡ heldIf (heldIf b xs g) ys g
+    unfolding heldIf
+    none-again ys = rw (not-true b h)
 
-    module _ (n : ℕ) (m : Bool) (j : m ≡ mayHold marks k) where
-      pub named-slow : (u : Bool) → m ≡ true → u ≡ isUsed file n (t .row) → u ≡ repeatsAt file n t
-      unfolding repeatsAt
-      named-slow u l q = rw (sym e ∙ not-false y h) q
+    pub none-doubted : (ys : List ℕ) → ys ≡ markedIf (heldIf b xs g) ys g
+    unfolding heldIf markedIf
+    none-doubted ys = rw (not-true b h)
 
-      pub named-clear : Telling file n marks → m ≡ false → false ≡ repeatsAt file n t
-      unfolding repeatsAt
-      named-clear a l = rw (sym e ∙ not-false y h) (sym (a .clear (t .row) (rw (sym i) (sym j ∙ l))))
+  module _ (h : not b ≡ false) (k : ℕ) (e : k ≡ g) where
+    pub some-marked : (ys : List ℕ) → ys ≡ marked xs k → ys ≡ markedIf b xs g
+    unfolding markedIf
+    some-marked ys j = rw (not-false b h, ← e) j
 
-pub telling-room : (file : List ℕ) (n : ℕ) (marks : List ℕ) → Telling file n marks → 0 < length marks
-telling-room file n marks a = a .room
+    module _ (m : Bool) (i : m ≡ mayHold xs k) where
+      held : heldIf b xs g ≡ m
+      unfolding heldIf
+      held = rw (not-false b h, ← e) (sym i)
+
+      pub some-held : m ≡ true → true ≡ heldIf b xs g
+      some-held l = sym (held ∙ l)
+
+      pub some-clear : m ≡ false → false ≡ heldIf b xs g
+      some-clear l = sym (held ∙ l)
+
+      module _ (ys : List ℕ) where
+        pub some-doubted : m ≡ true → (zs : List ℕ) → zs ≡ marked ys k → zs ≡ markedIf (heldIf b xs g) ys g
+        unfolding markedIf
+        some-doubted l zs j = rw (held ∙ l, ← e) j
+
+        pub some-undoubted : m ≡ false → ys ≡ markedIf (heldIf b xs g) ys g
+        unfolding markedIf
+        some-undoubted l = rw (held ∙ l)
+
+        pub some-again : m ≡ true → (r : Bool) → r ≡ mayHold ys k → r ≡ heldIf (heldIf b xs g) ys g
+        unfolding heldIf
+        some-again l r j = j ∙ ap (mayHold ys) e ∙ sym (ap (λ (c : Bool). c && mayHold ys g) (held ∙ l))
+
+        pub some-not-again : m ≡ false → false ≡ heldIf (heldIf b xs g) ys g
+        unfolding heldIf
+        some-not-again l = sym (ap (λ (c : Bool). c && mayHold ys g) (held ∙ l))
+
+both-true : (b m s u : Bool) → ((b && m) && s) ≡ true → u ≡ (b && (m && u))
+both-true true true s u k = refl
+both-true true false s u k = absurd (false≢true k)
+both-true false m s u k = absurd (false≢true k)
+
+none-true : (b m s u : Bool) → ((b && m) && s) ≡ false → (m ≡ true → s ≡ false → u ≡ false) → false ≡ (b && (m && u))
+none-true false m s u k f = refl
+none-true true false s u k f = refl
+none-true true true false u k f = sym (f refl refl)
+none-true true true true u k f = absurd (true≢false k)
+
+-- a doubtful name without a mark was not used; one with a mark is looked for
+module _ (ds marks : List ℕ) (g : ℕ) (b a : Bool) (i : a ≡ heldIf (heldIf b ds g) marks g) (u : Bool) where
+  pub asked-used : a ≡ true → u ≡ (b && (mayHold ds g && u))
+  unfolding heldIf
+  asked-used k = both-true b (mayHold ds g) (mayHold marks g) u (sym i ∙ k)
+
+  pub asked-not : a ≡ false → (mayHold ds g ≡ true → mayHold marks g ≡ false → u ≡ false) → false ≡ (b && (mayHold ds g && u))
+  unfolding heldIf
+  asked-not k f = none-true b (mayHold ds g) (mayHold marks g) u (sym i ∙ k) f
+
+-- one line, as the code decides on it
+module _ (file : List ℕ) (n : ℕ) (t : Turn) (ds marks : List ℕ) (b : Bool) (e : b ≡ isNamed t)
+    (a : Bool) (i : a ≡ heldIf (heldIf b ds (keyOf file (t .row))) marks (keyOf file (t .row))) where
+  pub again-used : (u : Bool) → a ≡ true → u ≡ isUsed file n (t .row) → u ≡ repeatsAmong file ds n t
+  unfolding repeatsAmong
+  again-used u k j = j ∙ asked-used ds marks (keyOf file (t .row)) (isNamed t) a (rw e at i) (isUsed file n (t .row)) k
+
+  pub again-not : a ≡ false → Telling file n ds marks → false ≡ repeatsAmong file ds n t
+  unfolding repeatsAmong
+  again-not k l = asked-not ds marks (keyOf file (t .row)) (isNamed t) a (rw e at i) (isUsed file n (t .row)) k (l .clear (t .row))
+
+pub again-marked : (file : List ℕ) (t : Turn) (ds marks : List ℕ) (b : Bool) (ys : List ℕ) → b ≡ isNamed t → ys ≡ markedIf (heldIf b ds (keyOf file (t .row))) marks (keyOf file (t .row))
+    → ys ≡ markedIf (heldIf (isNamed t) ds (keyOf file (t .row))) marks (keyOf file (t .row))
+again-marked file t ds marks b ys e j = rw e at j
+
+module _ (file : List ℕ) (n : ℕ) (ds marks : List ℕ) (a : Telling file n ds marks) where
+  pub telling-few : 0 < length ds
+  telling-few = a .few
+
+  pub telling-room : 0 < length marks
+  telling-room = a .room
+
+pub marked-if-length : (b : Bool) (xs ys : List ℕ) (h : ℕ) → ys ≡ markedIf b xs h → length ys ≡ length xs
+unfolding markedIf
+marked-if-length b xs ys h e = ap length e ∙ marking-length xs h b

@@ -20,7 +20,7 @@ use Rattle.walking.specs.Judging.{columnAt}
 use Rattle.records.specs.Answers.{limit}
 use Rattle.walking.specs.Walks.{begun, turnOf, stopsBy, isRow, Steady, Trace, traceBy, traceAt}
 use Rattle.spans.specs.Texts.{sameTexts}
-use Rattle.naming.specs.Names.{sameNames, leadsComponent, isNamed, namesSame, usedIn, isUsed, repeatsAt, repeatIn, repeatOf}
+use Rattle.naming.specs.Names.{sameNames, leadsComponent, isNamed, namesSame, usedIn, isUsed, repeatIn}
 use Rattle.walking.proofs.LineLaws.{column}
 use Rattle.walking.proofs.WalkLaws.{Going, going-start, going-trace, going-less, going-more, going-end}
 
@@ -129,55 +129,10 @@ module _ (file : List ℕ) (n : ℕ) (x : List ℤ) (w : Walk) (at : ℕ) (s : S
   unfolding usedIn
   seek-over h = sym (ap (usedIn file n x) (going-end file w at (s .going) h)) ∙ s .left
 
--- a line that names a component as one before it did
-module _ (file : List ℕ) (l : ℕ) (row : List ℤ) (t : Trace) where
-  repeat-on : (f : Found) → stopsBy f ≡ false → ((isRow f && leadsComponent row) && isUsed file l row) ≡ false
-      → repeatIn file (traceBy f l row t) ≡ repeatIn file t
-  unfolding repeatIn
-  repeat-on Row h g = rw g
-  repeat-on Nothing h g = refl
-  repeat-on (Refused m) h g = absurd (true≢false h)
-
-  repeat-here : (f : Found) → ((isRow f && leadsComponent row) && isUsed file l row) ≡ true → repeatIn file (traceBy f l row t) ≡ l
-  unfolding repeatIn
-  repeat-here Row g = rw g
-  repeat-here Nothing g = absurd (false≢true g)
-  repeat-here (Refused m) g = absurd (false≢true g)
-
-  repeat-none : (f : Found) → stopsBy f ≡ true → repeatIn file (traceBy f l row t) ≡ 0
-  unfolding repeatIn
-  repeat-none Row h = absurd (false≢true h)
-  repeat-none Nothing h = absurd (false≢true h)
-  repeat-none (Refused m) h = refl
-
--- what is left of a file has the first such line
-pub record Asking (file : List ℕ) (w : Walk) (at : ℕ) : Type 0 where
-  pub going : Going file w at
-  pub left : repeatIn file (traceAt file w) ≡ repeatOf file
-
-pub ask-start : (file : List ℕ) (w : Walk) → length file ≤ limit → w ≡ begun → Asking file w 0
-ask-start file w h e = record { going = going-start file w h e; left = rw e }
-
-module _ (file : List ℕ) (w : Walk) (at : ℕ) (s : Asking file w at) where
-  module _ (h : at < length file) (t : Turn) (e : t ≡ turnOf file w) (y : Bool) (i : y ≡ stopsBy (t .found)) where
-    asked : repeatIn file (traceBy (t .found) (w .line) (t .row) (traceAt file (t .walk))) ≡ repeatOf file
-    asked = sym (ap (repeatIn file) (going-trace file w at (s .going) h t e)) ∙ s .left
-
-    pub ask-stop : y ≡ true → 0 ≡ repeatOf file
-    ask-stop j = sym (repeat-none file (w .line) (t .row) (traceAt file (t .walk)) (t .found) (sym i ∙ j)) ∙ asked
-
-    module _ (z : Bool) (d : z ≡ repeatsAt file (w .line) t) where
-      pub ask-found : z ≡ true → w .line ≡ repeatOf file
-      unfolding repeatsAt isNamed
-      ask-found j = sym (repeat-here file (w .line) (t .row) (traceAt file (t .walk)) (t .found) (sym d ∙ j)) ∙ asked
-
-      pub ask-more : y ≡ false → z ≡ false → Asking file (t .walk) (t .walk .at)
-      unfolding repeatsAt isNamed
-      ask-more j q = record {
-        going = going-more file w at (s .going) h t e;
-        left = sym (repeat-on file (w .line) (t .row) (traceAt file (t .walk)) (t .found) (sym i ∙ j) (sym d ∙ q)) ∙ asked;
-      }
-
-  pub ask-over : length file ≤ at → 0 ≡ repeatOf file
-  unfolding repeatIn
-  ask-over h = sym (ap (repeatIn file) (going-end file w at (s .going) h)) ∙ s .left
+-- a line that names no component as one before it did
+pub repeat-on : (file : List ℕ) (l : ℕ) (row : List ℤ) (t : Trace) (f : Found) → stopsBy f ≡ false → ((isRow f && leadsComponent row) && isUsed file l row) ≡ false
+    → repeatIn file (traceBy f l row t) ≡ repeatIn file t
+unfolding repeatIn
+repeat-on file l row t Row h g = rw g
+repeat-on file l row t Nothing h g = refl
+repeat-on file l row t (Refused m) h g = absurd (true≢false h)

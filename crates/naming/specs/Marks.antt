@@ -2,25 +2,46 @@
 use Prim.Native.Nat.{ℕ, _<_}
 use mathlib.Core.Path.{_≡_}
 use mathlib.Core.List.{List}
-use mathlib.Core.Bool.{false, cond}
+use mathlib.Core.Bool.{Bool, true, false, cond, _&&_}
 use lib.IntN.{ℤ}
 use lib.ListN.{length}
 use Rattle.slots.specs.Hashes.{hashed}
 use Rattle.slots.specs.Marks.{mayHold, marked}
 use Rattle.walking.specs.declared.Turn.{Turn}
 use Rattle.walking.specs.Judging.{columnAt}
+use Rattle.walking.specs.Walks.{Trace, done, stop, skip, row, traceOf}
 use Rattle.spans.specs.Texts.{textAt}
-use Rattle.naming.specs.Names.{isNamed, isUsed}
+use Rattle.naming.specs.Names.{leadsComponent, isNamed, isUsed, repeatOf}
 
 -- the hash of a row's geometry and part
 unfoldable pub keyOf : List ℕ → List ℤ → ℕ
 keyOf file x = hashed (hashed 0 (textAt file (columnAt x 1) (columnAt x 2))) (textAt file (columnAt x 3) (columnAt x 4))
 
--- with the mark of a line that names a component
-unfoldable pub markedBy : List ℕ → List ℕ → Turn → List ℕ
-markedBy file marks t = cond (isNamed t) (marked marks (keyOf file (t .row))) marks
+-- where a test passes: a hash may have been marked; with its mark
+unfoldable pub heldIf : Bool → List ℕ → ℕ → Bool
+heldIf b marks h = b && mayHold marks h
 
--- a name without a mark came on no line before line n
-pub record Telling (file : List ℕ) (n : ℕ) (marks : List ℕ) : Type 0 where
+unfoldable pub markedIf : Bool → List ℕ → ℕ → List ℕ
+markedIf b marks h = cond b (marked marks h) marks
+
+-- line n names a doubtful component, one whose hash may have been marked in ds, as a line before it did
+unfoldable pub repeatsAmong : List ℕ → List ℕ → ℕ → Turn → Bool
+repeatsAmong file ds n t = isNamed t && (mayHold ds (keyOf file (t .row)) && isUsed file n (t .row))
+
+-- the first such line, or 0
+unfoldable pub repeatAmong : List ℕ → List ℕ → Trace → ℕ
+repeatAmong file ds (done w) = 0
+repeatAmong file ds (stop k l) = 0
+repeatAmong file ds (skip l t) = repeatAmong file ds t
+repeatAmong file ds (row l x t) = cond (leadsComponent x && (mayHold ds (keyOf file x) && isUsed file l x)) l (repeatAmong file ds t)
+
+-- a doubtful name without a mark came on no line before line n
+pub record Telling (file : List ℕ) (n : ℕ) (ds marks : List ℕ) : Type 0 where
+  pub few : 0 < length ds
   pub room : 0 < length marks
-  pub clear : (x : List ℤ) → mayHold marks (keyOf file x) ≡ false → isUsed file n x ≡ false
+  pub clear : (x : List ℤ) → mayHold ds (keyOf file x) ≡ true → mayHold marks (keyOf file x) ≡ false → isUsed file n x ≡ false
+
+-- every name that a file uses twice is doubtful, and without a doubt there is none
+pub record Doubted (file ds : List ℕ) (d : Bool) : Type 0 where
+  pub among : repeatAmong file ds (traceOf file) ≡ repeatOf file
+  pub none : d ≡ false → repeatOf file ≡ 0

@@ -36,10 +36,6 @@ usedIn file n x (row l y t) = ltb l n && (leadsComponent y && sameNames file y f
 abbrev pub isUsed : List ℕ → ℕ → List ℤ → Bool
 isUsed file n x = usedIn file n x (traceOf file)
 
--- line n names a component as a line before it did
-unfoldable pub repeatsAt : List ℕ → ℕ → Turn → Bool
-repeatsAt file n t = isNamed t && isUsed file n (t .row)
-
 -- the first line that names a component as one before it did, or 0
 unfoldable pub repeatIn : List ℕ → Trace → ℕ
 repeatIn file (done w) = 0

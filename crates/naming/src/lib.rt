@@ -4,15 +4,18 @@ use loops::same;
 use walking::Turn;
 use walking::steps;
 ghost use mathlib.Core.Path.{_≡_};
-ghost use Prim.Native.Nat.{_≤_};
+ghost use Prim.Native.Nat.{_≤_, _<_};
 ghost use lib.ListN.{length};
 ghost use Rattle.records.specs.Answers.{limit};
-ghost use Rattle.naming.specs.Names.{sameNames, leadsComponent, isNamed, namesSame, isUsed, repeatsAt};
-ghost use Rattle.naming.specs.Marks.{keyOf, markedBy, Telling};
+ghost use Rattle.walking.specs.Walks.{traceOf};
+ghost use Rattle.naming.specs.Names.{sameNames, leadsComponent, isNamed, namesSame, isUsed};
+ghost use Rattle.naming.specs.Marks.{keyOf, heldIf, markedIf, repeatsAmong, repeatAmong, Telling};
 
-// How many words a walk has at hand for the marks of names, 496 KiB of them; and how many are enough for fewer than so many bytes,
-// or so many numbers of rows.
+// How many words a walk has at hand for the marks of names, 496 KiB of them, and how many for those of doubtful names; and how
+// many are enough for fewer than so many bytes, or so many numbers of rows.
 pub const MARKS: usize = 253_952;
+
+pub const DOUBTS: usize = 1_024;
 
 pub const FEW: usize = 4_096;
 
@@ -36,7 +39,7 @@ pub fn leads_component(x: [i64; WIDTH]) -> bool
 }
 
 // Whether a line names a component.
-fn names_component(t: Turn) -> bool
+pub fn names_component(t: Turn) -> bool
     ensures { λ r. ⌜ r ≡ isNamed t ⌝ }
 {
     let found = t.found;
@@ -92,18 +95,94 @@ pub fn key(file: &[u8], x: [i64; WIDTH]) -> u64
     spans::hash_text(h, file, x[3], x[4])
 }
 
-// Whether line n names a component as a line before it did; a name without a mark came on none, and gets its mark here.
-pub fn repeats(file: &[u8], n: u64, t: Turn, marks: &mut [u16]) -> bool
-    requires { ⌜ (length (now file) ≤ limit) × Telling (now file) n (now marks) ⌝ }
-    ensures { λ r. ⌜ r ≡ repeatsAt (now (file .entry)) n t ⌝ }
-    ensures { λ _. ⌜ now (marks .exit) ≡ markedBy (now (file .entry)) (now (marks .entry)) t ⌝ }
+// Whether a row's name may have come before, as far as marks tell, where it has one. It gets its mark here, and one among the
+// doubtful names where it may.
+pub fn is_doubtful(
+    file: &[u8],
+    named: bool,
+    x: [i64; WIDTH],
+    marks: &mut [u16],
+    doubts: &mut [u16],
+) -> bool
+    requires { ⌜ (0 < length (now marks)) × (0 < length (now doubts)) ⌝ }
+    ensures { λ r. ⌜ r ≡ heldIf named (now (marks .entry)) (keyOf (now (file .entry)) x) ⌝ }
+    ensures { λ _. ⌜ now (marks .exit) ≡ markedIf named (now (marks .entry)) (keyOf (now (file .entry)) x) ⌝ }
+    ensures { λ _. ⌜ now (doubts .exit) ≡ markedIf (heldIf named (now (marks .entry)) (keyOf (now (file .entry)) x)) (now (doubts .entry)) (keyOf (now (file .entry)) x) ⌝ }
 {
-    let row = t.row;
-    if !names_component(t) {
+    if !named {
         return false;
     }
-    if slots::marks::mark(marks, key(file, row)) {
+    let h = key(file, x);
+    if slots::marks::mark(marks, h) {
+        slots::marks::mark(doubts, h);
+        return true;
+    }
+    false
+}
+
+// Whether a row's name is doubtful and may have come before among the doubtful ones, where it has one; such a name gets its mark here.
+pub fn is_again(
+    file: &[u8],
+    named: bool,
+    x: [i64; WIDTH],
+    doubts: &[u16],
+    marks: &mut [u16],
+) -> bool
+    requires { ⌜ (0 < length (now doubts)) × (0 < length (now marks)) ⌝ }
+    ensures { λ r. ⌜ r ≡ heldIf (heldIf named (now (doubts .entry)) (keyOf (now (file .entry)) x)) (now (marks .entry)) (keyOf (now (file .entry)) x) ⌝ }
+    ensures { λ _. ⌜ now (marks .exit) ≡ markedIf (heldIf named (now (doubts .entry)) (keyOf (now (file .entry)) x)) (now (marks .entry)) (keyOf (now (file .entry)) x) ⌝ }
+{
+    if !named {
+        return false;
+    }
+    let h = key(file, x);
+    if slots::marks::may_hold(doubts, h) {
+        return slots::marks::mark(marks, h);
+    }
+    false
+}
+
+// Whether line n names a doubtful component as a line before it did; one without a mark came on none.
+fn repeats(file: &[u8], n: u64, t: Turn, doubts: &[u16], marks: &mut [u16]) -> bool
+    requires { ⌜ (length (now file) ≤ limit) × Telling (now file) n (now doubts) (now marks) ⌝ }
+    ensures { λ r. ⌜ r ≡ repeatsAmong (now (file .entry)) (now (doubts .entry)) n t ⌝ }
+    ensures { λ _. ⌜ now (marks .exit) ≡ markedIf (heldIf (isNamed t) (now (doubts .entry)) (keyOf (now (file .entry)) (t .row))) (now (marks .entry)) (keyOf (now (file .entry)) (t .row)) ⌝ }
+{
+    let row = t.row;
+    if is_again(file, names_component(t), row, doubts, marks) {
         return is_used(file, n, row);
     }
     false
+}
+
+// The first line that names a doubtful component as a line before it did, or 0; `marks` are those of the doubtful names that came.
+fn repeat_by(file: &[u8], doubts: &[u16], marks: &mut [u16]) -> u64
+    requires { ⌜ (length (now file) ≤ limit) × (0 < length (now doubts)) × (0 < length (now marks)) ⌝ }
+    ensures { λ r. ⌜ r ≡ repeatAmong (now (file .entry)) (now (doubts .entry)) (traceOf (now (file .entry))) ⌝ }
+{
+    let mut w = steps::begin();
+    let mut at = 0;
+    while at < file.len() {
+        let l = w.line;
+        let t = steps::turn(file, w);
+        let found = t.found;
+        if steps::stops(found) {
+            return 0;
+        }
+        if repeats(file, l, t, doubts, marks) {
+            return l;
+        }
+        w = t.walk;
+        at = w.at;
+    }
+    0
+}
+
+// The first line that names a doubtful component as a line before it did, or 0.
+pub fn first_repeat(file: &[u8], doubts: &[u16]) -> u64
+    requires { ⌜ (length (now file) ≤ limit) × (0 < length (now doubts)) ⌝ }
+    ensures { λ r. ⌜ r ≡ repeatAmong (now (file .entry)) (now (doubts .entry)) (traceOf (now (file .entry))) ⌝ }
+{
+    let mut marks: [u16; DOUBTS] = [0; DOUBTS];
+    repeat_by(file, doubts, &mut marks)
 }

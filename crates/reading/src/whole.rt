@@ -1,6 +1,7 @@
 // A whole file, checked or read into lent rows.
 use crate::rows;
 use lines::WIDTH;
+use naming::DOUBTS;
 use naming::FEW;
 use naming::MARKS;
 use naming::SMALL;
@@ -13,7 +14,8 @@ ghost use mathlib.Core.Path.{_≡_};
 ghost use Prim.Native.Nat.{_^_, _≤_, _<_};
 ghost use lib.ListN.{length};
 ghost use Rattle.records.specs.Answers.{limit, reply};
-ghost use Rattle.reading.specs.Replies.{countedBy, endedBy, checkReply, readReply, readRows, withinReply};
+ghost use Rattle.naming.specs.Marks.{Doubted};
+ghost use Rattle.reading.specs.Replies.{countedBy, endedBy, survey, checkReply, readReply, readRows, withinReply};
 
 // A refusal without a count.
 fn refusal(number: u64, line: u64) -> Reply
@@ -53,29 +55,61 @@ fn ended(r: Reply, w: Walk) -> Reply
     refusal(13, w.line)
 }
 
-// A file by all rules but size; `marks` are those of the names that came.
-fn walked(file: &[u8], marks: &mut [u16]) -> Reply
-    requires { ⌜ (length (now file) ≤ limit) × (0 < length (now marks)) ⌝ }
-    ensures { λ r. ⌜ r ≡ withinReply (now (file .entry)) ⌝ }
+// What the first walk over a file tells: its reply but for names used twice, and whether a name is doubtful.
+struct FirstWalk {
+    reply: Reply,
+    doubtful: bool,
+}
+
+// A file by all rules but size and names used twice; `marks` are those of the names that came, `doubts` those of the names that
+// may have come before.
+fn surveyed(file: &[u8], marks: &mut [u16], doubts: &mut [u16]) -> FirstWalk
+    requires { ⌜ (length (now file) ≤ limit) × (0 < length (now marks)) × (0 < length (now doubts)) ⌝ }
+    ensures { λ r. ⌜ r .reply ≡ survey (now (file .entry)) ⌝ }
+    ensures { λ r. ⌜ Doubted (now (file .entry)) (now (doubts .exit)) (r .doubtful) ⌝ }
 {
     let mut w = steps::begin();
     let mut at = 0;
     let mut r = refusal(0, 0);
+    let mut doubtful = false;
     while at < file.len() {
         let l = w.line;
         let t = steps::turn(file, w);
         let found = t.found;
         r = counted(r, l, found);
         if steps::stops(found) {
-            return r;
+            return FirstWalk {
+                reply: r,
+                doubtful: doubtful,
+            };
         }
-        if naming::repeats(file, l, t, marks) {
-            return refusal(12, l);
-        }
+        let row = t.row;
+        let named = naming::names_component(t);
+        doubtful = doubtful | naming::is_doubtful(file, named, row, marks, doubts);
         w = t.walk;
         at = w.at;
     }
-    ended(r, w)
+    FirstWalk {
+        reply: ended(r, w),
+        doubtful: doubtful,
+    }
+}
+
+// A file by all rules but size; a second walk decides on doubtful names, where there are any.
+fn walked(file: &[u8], marks: &mut [u16], doubts: &mut [u16]) -> Reply
+    requires { ⌜ (length (now file) ≤ limit) × (0 < length (now marks)) × (0 < length (now doubts)) ⌝ }
+    ensures { λ r. ⌜ r ≡ withinReply (now (file .entry)) ⌝ }
+{
+    let s = surveyed(file, marks, doubts);
+    let r = s.reply;
+    if !s.doubtful {
+        return r;
+    }
+    let n = naming::first_repeat(file, doubts);
+    if n == 0 {
+        return r;
+    }
+    refusal(12, n)
 }
 
 // A file within the limit, with few marks at hand.
@@ -84,7 +118,8 @@ fn by_few(file: &[u8]) -> Reply
     ensures { λ r. ⌜ r ≡ withinReply (now (file .entry)) ⌝ }
 {
     let mut marks: [u16; FEW] = [0; FEW];
-    walked(file, &mut marks)
+    let mut doubts: [u16; DOUBTS] = [0; DOUBTS];
+    walked(file, &mut marks, &mut doubts)
 }
 
 // The same with all marks.
@@ -93,7 +128,8 @@ fn by_all(file: &[u8]) -> Reply
     ensures { λ r. ⌜ r ≡ withinReply (now (file .entry)) ⌝ }
 {
     let mut marks: [u16; MARKS] = [0; MARKS];
-    walked(file, &mut marks)
+    let mut doubts: [u16; DOUBTS] = [0; DOUBTS];
+    walked(file, &mut marks, &mut doubts)
 }
 
 // A file's reply: 0 with the number of its rows, or its first refusal. A small file has a small table, which is sooner empty.

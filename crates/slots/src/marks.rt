@@ -52,8 +52,8 @@ fn put_bit(marks: &mut [u16], p: u64)
     marks[at] = x | b;
 }
 
-// Whether all bits of a mark are set.
-fn has_bits(marks: &[u16], h: u64) -> bool
+// Whether a hash may have been marked: all its bits are set.
+pub fn may_hold(marks: &[u16], h: u64) -> bool
     requires { ⌜ 0 < length (now marks) ⌝ }
     ensures { λ r. ⌜ r ≡ mayHold (now (marks .entry)) h ⌝ }
 {
@@ -85,7 +85,7 @@ pub fn mark(marks: &mut [u16], h: u64) -> bool
     ensures { λ r. ⌜ r ≡ mayHold (now (marks .entry)) h ⌝ }
     ensures { λ _. ⌜ now (marks .exit) ≡ marked (now (marks .entry)) h ⌝ }
 {
-    let held = has_bits(marks, h);
+    let held = may_hold(marks, h);
     put_bits(marks, h);
     held
 }

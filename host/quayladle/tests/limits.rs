@@ -115,24 +115,6 @@ fn a_text_over_the_limit_is_refused() {
 }
 
 #[test]
-fn a_board_is_judged_by_a_library_of_more_components_than_the_slots_take() {
-    let component = |n| format!(".ELECTRICAL\ng{n} p MM 1\n0 0 0 0\n0 1 0 360\n.END_ELECTRICAL\n");
-    let library = [LIBRARY, (0..70_000).map(component).collect::<String>().as_bytes()].concat();
-    for (parts, number, count, which) in
-        [([0, 69_999, 35_000, 1], 0, 4, 0), ([35_000, 80_000, 80_001, 70_000], 16, 2, 1)]
-    {
-        let placements = parts.map(|n| format!("g{n} p U{n}\n0 0 0 0 TOP PLACED\n")).concat();
-        let board = format!(
-            ".HEADER\nBOARD_FILE 3.0 s 2024/05/06.07:08:09 1\nb MM\n.END_HEADER\n\
-             .BOARD_OUTLINE MCAD\n1.6\n0 0 0 0\n0 1 0 360\n.END_BOARD_OUTLINE\n\
-             .PLACEMENT\n{placements}.END_PLACEMENT\n"
-        );
-        let verdict = judge(board.as_bytes(), &library);
-        assert_eq!(verdict, Verdict { reply: reply(number, 0, count), which });
-    }
-}
-
-#[test]
 fn a_larger_file_is_refused() {
     let file = padded(LARGEST_FILE + 1);
     let mut lent = [-1; 40];

@@ -6,8 +6,8 @@ use Rattle.slots.proofs.marks.mark.Tie as tie
 
 ruleset laws = (marked-same-length, needs)
 
-has-bits-requires : tie.Need-has-bits-requires
-has-bits-requires c κs = search laws
+may-hold-requires : tie.Need-may-hold-requires
+may-hold-requires c κs = search laws
 
 put-bits-requires : tie.Need-put-bits-requires
 put-bits-requires c κs = search laws
@@ -19,4 +19,4 @@ returns : tie.Need-returns
 returns c = search laws
 
 pub mark-spec : {M : Type 1} → statement M
-mark-spec = tie.close (tie.spec has-bits-requires put-bits-requires same-length returns)
+mark-spec = tie.close (tie.spec may-hold-requires put-bits-requires same-length returns)

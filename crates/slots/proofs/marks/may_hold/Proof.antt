@@ -1,10 +1,10 @@
--- `slots::marks::has_bits` meets its contract. Assumes nothing.
+-- `slots::marks::may_hold` meets its contract. Assumes nothing.
 use borrow.Author.Needs.{needs}
 use Rattle.slots.proofs.MarkLaws.{test-start, test-over, test-lacks, test-more, Testing}
 use Prim.Native.Nat.{_-_}
 use Rattle.slots.specs.Marks.{bits}
-use Rattle.slots.proofs.marks.has_bits.Statement.{statement}
-use Rattle.slots.proofs.marks.has_bits.Tie as tie
+use Rattle.slots.proofs.marks.may_hold.Statement.{statement}
+use Rattle.slots.proofs.marks.may_hold.Tie as tie
 
 abbrev Inv-loop : tie.InvT-loop
 Inv-loop marks h i₀ i = Testing marks h i
@@ -38,7 +38,7 @@ loop-again c = search laws
 returns-2 : tie.Need-returns-2 Inv-loop μ-loop
 returns-2 c = search laws
 
-pub has-bits-spec : {M : Type 1} → statement M
-has-bits-spec =
+pub may-hold-spec : {M : Type 1} → statement M
+may-hold-spec =
     tie.close
     (tie.spec Inv-loop μ-loop loop-holds spot-of-requires has-bit-requires returns add-i loop-less loop-again returns-2)

@@ -1,48 +1,39 @@
 -- `writing::names::twice_by` meets its contract. Assumes nothing.
 use borrow.Author.Needs.{needs}
-use Rattle.writing.proofs.MarkLaws.{pair-start, pair-told, pair-length, pair-marked, pair-over, pair-within, pair-found, pair-more, Pairing}
+use Rattle.writing.proofs.MarkLaws.{sure-once, decided}
 use Rattle.writing.proofs.names.twice_by.Statement.{statement}
 use Rattle.writing.proofs.names.twice_by.Tie as tie
 
-abbrev Inv-loop : tie.InvT-loop
-Inv-loop rows bytes marks₀ i₀ marks i = Pairing rows bytes marks₀ marks i
+ruleset laws = (sure-once, decided, needs)
 
-abbrev μ-loop : tie.MeasureT-loop
-μ-loop rows bytes marks₀ i₀ marks i = i
+doubted-requires : tie.Need-doubted-requires
+doubted-requires c κs = search laws
 
-ruleset laws = (pair-start, pair-told, pair-length, pair-marked, pair-over, pair-within, pair-found, pair-more, needs)
-
-loop-holds : tie.Need-loop-holds Inv-loop μ-loop
-loop-holds c = search laws
-
-sub-at : tie.Need-sub-at Inv-loop μ-loop
-sub-at c = search laws
-
-row-at-requires : tie.Need-row-at-requires Inv-loop μ-loop
-row-at-requires c κs = search laws
-
-names-again-requires : tie.Need-names-again-requires Inv-loop μ-loop
-names-again-requires c κs = search laws
-
-same-length : tie.Need-same-length Inv-loop μ-loop
+same-length : tie.Need-same-length
 same-length c = search laws
 
-returns : tie.Need-returns Inv-loop μ-loop
-returns c = search laws
-
-loop-less : tie.Need-loop-less Inv-loop μ-loop
-loop-less c = search laws
-
-loop-again : tie.Need-loop-again Inv-loop μ-loop
-loop-again c = search laws
-
-same-length-2 : tie.Need-same-length-2 Inv-loop μ-loop
+same-length-2 : tie.Need-same-length-2
 same-length-2 c = search laws
 
-returns-2 : tie.Need-returns-2 Inv-loop μ-loop
+returns : tie.Need-returns
+returns c = search laws
+
+slice-aggregate-twice-among : tie.Need-slice-aggregate-twice-among
+slice-aggregate-twice-among c = search laws
+
+twice-among-requires : tie.Need-twice-among-requires
+twice-among-requires c κs = search laws
+
+same-length-3 : tie.Need-same-length-3
+same-length-3 c = search laws
+
+same-length-4 : tie.Need-same-length-4
+same-length-4 c = search laws
+
+returns-2 : tie.Need-returns-2
 returns-2 c = search laws
 
 pub twice-by-spec : {M : Type 1} → statement M
 twice-by-spec =
     tie.close
-    (tie.spec Inv-loop μ-loop loop-holds sub-at row-at-requires names-again-requires same-length returns loop-less loop-again same-length-2 returns-2)
+    (tie.spec doubted-requires same-length same-length-2 returns slice-aggregate-twice-among twice-among-requires same-length-3 same-length-4 returns-2)
