@@ -1,6 +1,7 @@
 //! The two libraries asked the same: one operation on one subject, its reply as four numbers.
 
-use std::fmt;
+use std::path::Path;
+use std::{fmt, fs, io};
 
 use crate::files::{self, components_in, Placed};
 use crate::sheet::Sheet;
@@ -15,6 +16,20 @@ pub enum Side {
     Proved,
     /// The second reader.
     Second,
+}
+
+impl Side {
+    /// Both.
+    pub const ALL: [Side; 2] = [Side::Proved, Side::Second];
+}
+
+impl fmt::Display for Side {
+    fn fmt(&self, f: &mut fmt::Formatter) -> fmt::Result {
+        f.pad(match self {
+            Side::Proved => "proved",
+            Side::Second => "second",
+        })
+    }
 }
 
 /// What is asked.
@@ -93,6 +108,15 @@ impl Subject {
         Subject::new(files::board_of(placements, components), Some(library))
     }
 
+    /// A library of a size that is full of components, to be checked.
+    pub fn crowded(size: usize) -> Subject {
+        Subject::to_check(files::crowded(size))
+    }
+
+    fn to_check(file: Vec<u8>) -> Subject {
+        Subject { file, copy: Vec::new(), library: None, rows: Vec::new(), text_len: 0 }
+    }
+
     fn new(Sheet { file, copy, .. }: Sheet, library: Option<Sheet>) -> Subject {
         let rows = second::rows(&file).expect("a made file is accepted").concat();
         let text_len = second::canon(&file).expect("a made file's text is within the limit").len();
@@ -102,10 +126,35 @@ impl Subject {
         Subject { file, copy, library, rows, text_len }
     }
 
+    /// Keeps the subject in a folder.
+    pub fn save(&self, folder: &Path) -> io::Result<()> {
+        let rows: Vec<u8> = self.rows.iter().flat_map(|number| number.to_le_bytes()).collect();
+        fs::write(folder.join("file"), &self.file)?;
+        fs::write(folder.join("copy"), &self.copy)?;
+        fs::write(folder.join("library"), self.entries())?;
+        fs::write(folder.join("rows"), rows)?;
+        fs::write(folder.join("text"), self.text_len.to_le_bytes())
+    }
+
+    /// A subject that was kept in a folder.
+    pub fn load(folder: &Path) -> io::Result<Subject> {
+        let numbers = |name: &str| -> io::Result<Vec<i64>> {
+            let bytes = fs::read(folder.join(name))?;
+            let number = |bytes: &[u8]| bytes.try_into().map_or(0, i64::from_le_bytes);
+            Ok(bytes.chunks(8).map(number).collect())
+        };
+        Ok(Subject {
+            file: fs::read(folder.join("file"))?,
+            copy: fs::read(folder.join("copy"))?,
+            library: Some(fs::read(folder.join("library"))?),
+            rows: numbers("rows")?,
+            text_len: numbers("text")?.first().map_or(0, |&length| length as usize),
+        })
+    }
+
     /// The library of this subject by itself.
     pub fn only_library(&self) -> Option<Subject> {
-        let file = self.library.clone()?;
-        Some(Subject { file, copy: Vec::new(), library: None, rows: Vec::new(), text_len: 0 })
+        self.library.clone().map(Subject::to_check)
     }
 
     /// Whether the operation can be asked.

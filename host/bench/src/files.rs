@@ -60,6 +60,20 @@ pub fn library(size: usize, components: usize) -> Sheet {
     sheet
 }
 
+/// A library of a size with as many components as it can hold: short names, a circle each, no byte more than that takes.
+pub fn crowded(size: usize) -> Vec<u8> {
+    let mut file = b".HEADER\nLIBRARY_FILE 3.0 s 2026/11/15.12:00:00 1\n.END_HEADER\n".to_vec();
+    for place in 0.. {
+        let component =
+            format!(".ELECTRICAL\n{place:X} p MM 0\n0 0 0 0\n0 1 0 360\n.END_ELECTRICAL\n");
+        if file.len() + component.len() > size {
+            break;
+        }
+        file.extend(component.into_bytes());
+    }
+    file
+}
+
 /// A board or panel on its way.
 struct Maker {
     sheet: Sheet,
@@ -170,6 +184,13 @@ mod tests {
             assert_eq!(count_of(&sheet.file, &COMPONENT), components_in(size));
         }
         assert_eq!(components_in(LARGEST), MOST_COMPONENTS);
+    }
+
+    #[test]
+    fn a_crowded_library_is_full_of_components() {
+        let file = crowded(MIB);
+        assert!((MIB - 60..=MIB).contains(&file.len()), "{}", file.len());
+        assert!(count_of(&file, &COMPONENT) * 60 > MIB);
     }
 
     #[test]

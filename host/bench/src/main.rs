@@ -8,6 +8,7 @@ mod arguments;
 mod asking;
 mod bounds;
 mod cores;
+mod counts;
 mod files;
 mod parts;
 mod sections;
@@ -36,13 +37,9 @@ fn main() {
             print!("{HELP}");
             0
         }
-        Ok(Command::Run(arguments)) => match run(arguments) {
-            Ok(()) => 0,
-            Err(differs) => {
-                eprintln!("bench: {differs}");
-                1
-            }
-        },
+        Ok(Command::Run(arguments)) => ended(run(arguments).map_err(|differs| differs.to_string())),
+        Ok(Command::Count { quick }) => ended(counts::run(quick)),
+        Ok(Command::One(one)) => ended(counts::ask(&one)),
         Err(fault) => {
             eprintln!("bench: {fault}; see tools/bench --help");
             2
@@ -50,6 +47,17 @@ fn main() {
     };
     // A run that was given up goes on in its thread and ends here, with the process.
     process::exit(code);
+}
+
+/// The exit code of what was done, once its fault is said.
+fn ended(done: Result<(), String>) -> i32 {
+    match done {
+        Ok(()) => 0,
+        Err(fault) => {
+            eprintln!("bench: {fault}");
+            1
+        }
+    }
 }
 
 /// Measures and prints, table by table.

@@ -4,7 +4,7 @@ use std::sync::Arc;
 use std::time::Duration;
 
 use crate::asking::{Operation, Subject};
-use crate::files::{LARGEST, MOST_COMPONENTS};
+use crate::files::{LARGEST, MIB, MOST_COMPONENTS};
 use crate::speeds::{per_byte, Kind, Speed};
 use crate::table::{figure, Table};
 use crate::timing::{Clock, Differs, Times};
@@ -27,10 +27,12 @@ pub struct Special {
 /// The special cases; a and c are of files that the first table has timed.
 pub fn measured(clock: &mut Clock, speeds: &[Speed]) -> Result<Vec<Special>, Differs> {
     let judged = judging(clock)?;
+    let crowded = crowded(clock)?;
     let mut cases = Vec::new();
     cases.extend(against_board(speeds, Operation::Check, 'a'));
     cases.push(judged);
     cases.extend(against_board(speeds, Operation::Write, 'c'));
+    cases.push(crowded);
     Ok(cases)
 }
 
@@ -81,6 +83,31 @@ fn judging(clock: &mut Clock) -> Result<Special, Differs> {
             thousands(COMPONENTS)
         ),
         times: judged[0],
+        proved: ratio(|times| times.proved),
+        second: ratio(|times| times.second),
+    })
+}
+
+/// Checking the library with the most components, per byte over a small one that is as full of them.
+fn crowded(clock: &mut Clock) -> Result<Special, Differs> {
+    eprintln!("bench: making libraries with as many components as fit");
+    let made = |size: usize| Arc::new(Subject::crowded(size));
+    let pilots = [MIB / 16, MIB / 4].map(made);
+    let subjects = [MIB, 4 * MIB, LARGEST].map(made);
+    let times = clock.climb("library of case d", Operation::Check, &pilots, &subjects)?;
+    let bytes = |place: usize| subjects[place].bytes(Operation::Check);
+    let ratio = |time: fn(&Times) -> Option<Duration>| {
+        let of = |place: usize| per_byte(time(&times[place]), bytes(place));
+        Some(of(2)? / of(0)?)
+    };
+    let components = subjects[2].file.iter().filter(|&&byte| byte == b'p').count();
+    Ok(Special {
+        letter: 'd',
+        what: format!(
+            "check a library of 16 MiB with {} components, the most; per byte, over one of 1 MiB as full",
+            thousands(components)
+        ),
+        times: times[2],
         proved: ratio(|times| times.proved),
         second: ratio(|times| times.second),
     })
