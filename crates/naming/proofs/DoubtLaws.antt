@@ -1,6 +1,6 @@
 -- Laws of the marks that the lines of a file leave, of the doubtful names among them, and of the walk that decides on these.
 use Prim.Native.Nat.{ℕ, _+_, _-_, _≤_, _<_}
-use mathlib.Core.Path.{_≡_, refl, sym, ap, _∙_}
+use mathlib.Core.Path.{_≡_, refl, sym, ap, ap₂, _∙_}
 use mathlib.Core.List.{List}
 use mathlib.Core.Bool.{Bool, true, false, cond, _&&_, _||_, true≢false, false≢true}
 use native.Mathlib.Omega.{arith}
@@ -8,7 +8,6 @@ use borrow.Author.Tests.{lt-ltb, le-ltb}
 use lib.IntN.{ℤ}
 use lib.ListN.{length}
 use Rattle.slots.specs.Marks.{mayHold}
-use Rattle.slots.proofs.MarkLaws.{marking-keeps, marking-here}
 use Rattle.walking.specs.declared.Found.{Found}
 use Rattle.walking.specs.declared.Found.the-variants.{Row, Nothing, Refused}
 use Rattle.walking.specs.declared.Walk.{Walk}
@@ -19,7 +18,7 @@ use Rattle.walking.proofs.WalkLaws.{Going, going-start, going-trace, going-less
 use Rattle.naming.specs.Names.{sameNames, leadsComponent, isNamed, usedIn, isUsed, repeatIn, repeatOf}
 use Rattle.naming.specs.Marks.{keyOf, heldIf, markedIf, repeatsAmong, repeatAmong, Telling, Doubted}
 use Rattle.naming.proofs.NameLaws.{used-on, used-late, and-assoc, repeat-on}
-use Rattle.naming.proofs.KeyLaws.{same-key, marked-if-length}
+use Rattle.naming.proofs.KeyLaws.{same-key, marked-if-length, marked-keeps, marked-here, marked-not, not-used, among-all, or-left, or-right}
 
 -- a name that is asked for and has no mark comes in what is left, if at all
 pub record Marking (file : List ℕ) (p : ℕ → Bool) (w : Walk) (marks : List ℕ) : Type 0 where
@@ -33,11 +32,6 @@ line-on : (file : List ℕ) (w : Walk) (t : Turn) → t ≡ turnOf file w → t 
 unfolding turnOf
 line-on file w t e = ap (λ (u : Turn). u .walk .line) e
 
-pub not-both : (a v b : Bool) → (a ≡ true → v ≡ true → b ≡ true) → (b && v) ≡ false → (a && v) ≡ false
-not-both false v b f k = refl
-not-both true false b f k = refl
-not-both true true b f k = absurd (true≢false (rw (f refl refl) at k))
-
 -- one line more takes no mark away, and marks the name that it has, if it is asked for
 module _ (file : List ℕ) (p : ℕ → Bool) (w : Walk) (at : ℕ) (marks : List ℕ) (s : Marking file p w marks) (g : Going file w at) (h : at < length file) (t : Turn) (e : t ≡ turnOf file w) where
   marking-tells : (x : List ℤ) → p (keyOf file x) ≡ true → mayHold marks (keyOf file x) ≡ false → isUsed file (w .line) x ≡ false
@@ -47,42 +41,32 @@ module _ (file : List ℕ) (p : ℕ → Bool) (w : Walk) (at : ℕ) (marks : Lis
       ∙ used-late file (w .line) (w .line) x (t .row) (traceAt file (t .walk)) (t .found) (le-ltb (w .line) (w .line) (omega arith))
 
   module _ (k : stopsBy (t .found) ≡ false) (b : Bool) (f : isNamed t ≡ true → p (keyOf file (t .row)) ≡ true → b ≡ true) where
-    clear-before : (q : ℕ) → mayHold (markedIf b marks (keyOf file (t .row))) q ≡ false → mayHold marks q ≡ false
-    unfolding markedIf
-    clear-before q c = marking-keeps marks (keyOf file (t .row)) (s .room) b q c
+    module _ (ys : List ℕ) (m : ys ≡ markedIf b marks (keyOf file (t .row))) where
+      clear-here : (x : List ℤ) → p (keyOf file x) ≡ true → mayHold ys (keyOf file x) ≡ false
+          → (isRow (t .found) && (leadsComponent (t .row) && sameNames file (t .row) file x)) ≡ false
+      unfolding isNamed
+      clear-here x a c =
+          sym (and-assoc (isRow (t .found)) (leadsComponent (t .row)) (sameNames file (t .row) file x))
+          ∙ marked-not b marks ys (keyOf file (t .row)) (s .room) m (isRow (t .found) && leadsComponent (t .row)) (sameNames file (t .row) file x) (keyOf file x)
+          (same-key file (t .row) file x) (λ i j. f i (ap p (same-key file (t .row) file x j) ∙ a)) c
 
-    clear-here : (x : List ℤ) → p (keyOf file x) ≡ true → mayHold (markedIf b marks (keyOf file (t .row))) (keyOf file x) ≡ false
-        → (isRow (t .found) && (leadsComponent (t .row) && sameNames file (t .row) file x)) ≡ false
-    unfolding markedIf isNamed
-    clear-here x a c =
-        sym (and-assoc (isRow (t .found)) (leadsComponent (t .row)) (sameNames file (t .row) file x))
-        ∙ not-both (isRow (t .found) && leadsComponent (t .row)) (sameNames file (t .row) file x) b
-        (λ i j. f i (ap p (same-key file (t .row) file x j) ∙ a))
-        (marking-here marks (keyOf file (t .row)) (s .room) b (sameNames file (t .row) file x) (keyOf file x) (same-key file (t .row) file x) c)
-
-    marking-more : (ys : List ℕ) → ys ≡ markedIf b marks (keyOf file (t .row)) → Marking file p (t .walk) ys
-    marking-more ys m = rw m (record {
-      room = rw (marked-if-length b marks (markedIf b marks (keyOf file (t .row))) (keyOf file (t .row)) refl) (s .room);
-      clear = λ n x l a c.
-          let o = line-on file w t e in
-          let i : w .line < n = omega arith in
-          sym (ap (usedIn file n x) (going-trace file w at g h t e)
-          ∙ used-on file n (w .line) x (t .row) (traceAt file (t .walk)) (t .found) k (lt-ltb (w .line) n i) (clear-here x a c))
-          ∙ s .clear n x (omega arith) a (clear-before (keyOf file x) c);
-    })
+      marking-more : Marking file p (t .walk) ys
+      marking-more = record {
+        room = rw (marked-if-length b marks ys (keyOf file (t .row)) m) (s .room);
+        clear = λ n x l a c.
+            let o = line-on file w t e in
+            let i : w .line < n = omega arith in
+            sym (ap (usedIn file n x) (going-trace file w at g h t e)
+            ∙ used-on file n (w .line) x (t .row) (traceAt file (t .walk)) (t .found) k (lt-ltb (w .line) n i) (clear-here x a c))
+            ∙ s .clear n x (omega arith) a (marked-keeps b marks ys (keyOf file (t .row)) (s .room) m (keyOf file x) c);
+      }
 
 -- among doubtful names that hold all that are used here, a line is what it is among all
 module _ (file es : List ℕ) (l : ℕ) (x : List ℤ) (t : Trace) (i : repeatAmong file es t ≡ repeatIn file t) where
   agree-on : (f : Found) → (mayHold es (keyOf file x) ≡ false → ((isRow f && leadsComponent x) && isUsed file l x) ≡ false)
       → repeatAmong file es (traceBy f l x t) ≡ repeatIn file (traceBy f l x t)
   unfolding repeatAmong repeatIn
-  agree-on Row k = go (leadsComponent x) (mayHold es (keyOf file x)) (isUsed file l x) k
-    where
-      go : (a m u : Bool) → (m ≡ false → (a && u) ≡ false) → cond (a && (m && u)) l (repeatAmong file es t) ≡ cond (a && u) l (repeatIn file t)
-      go false m u k = i
-      go true true u k = ap (cond u l) i
-      go true false false k = i
-      go true false true k = absurd (true≢false (k refl))
+  agree-on Row k = ap₂ (λ (c : Bool) (z : ℕ). cond c l z) (among-all (leadsComponent x) (mayHold es (keyOf file x)) (isUsed file l x) k) i
   agree-on Nothing k = i
   agree-on (Refused m) k = refl
 
@@ -114,22 +98,6 @@ doubt-start file w marks ds l k e = record {
   none = λ i. rw e;
 }
 
-pub or-left : (a b : Bool) → (a || b) ≡ false → a ≡ false
-or-left false b k = refl
-or-left true b k = k
-
-pub or-right : (a b : Bool) → (a || b) ≡ false → b ≡ false
-or-right false b k = k
-or-right true b k = absurd (true≢false k)
-
-pub and-true : (a : Bool) → (a && true) ≡ false → a ≡ false
-and-true true k = k
-and-true false k = refl
-
-pub not-used : (a m u : Bool) → (a && m) ≡ false → (m ≡ false → u ≡ false) → (a && u) ≡ false
-not-used false m u k f = refl
-not-used true m u k f = f k
-
 module _ (file : List ℕ) (w : Walk) (at : ℕ) (d : Bool) (marks ds : List ℕ) (s : Doubting file w d marks ds) (g : Going file w at) where
   pub doubt-over : length file ≤ at → Doubted file ds d
   unfolding repeatAmong repeatIn
@@ -157,30 +125,23 @@ module _ (file : List ℕ) (w : Walk) (at : ℕ) (d : Bool) (marks ds : List ℕ
           (marking-tells file (λ (q : ℕ). true) w at marks (s .marking) g h t e (t .row) refl)
 
       module _ (es : List ℕ) (i : es ≡ markedIf (heldIf (isNamed t) marks (keyOf file (t .row))) ds (keyOf file (t .row))) where
-        doubts-keep : (q : ℕ) → mayHold es q ≡ false → mayHold ds q ≡ false
-        unfolding markedIf
-        doubts-keep q c = marking-keeps ds (keyOf file (t .row)) (s .room) (heldIf (isNamed t) marks (keyOf file (t .row))) q (rw i at c)
-
-        doubts-here : mayHold es (keyOf file (t .row)) ≡ false → heldIf (isNamed t) marks (keyOf file (t .row)) ≡ false
-        unfolding markedIf
-        doubts-here c =
-            and-true (heldIf (isNamed t) marks (keyOf file (t .row)))
-            (marking-here ds (keyOf file (t .row)) (s .room) (heldIf (isNamed t) marks (keyOf file (t .row))) true (keyOf file (t .row)) (λ j. refl) (rw i at c))
-
         pub doubt-more : (z : Bool) (ys : List ℕ) → z ≡ heldIf (isNamed t) marks (keyOf file (t .row)) → ys ≡ markedIf (isNamed t) marks (keyOf file (t .row))
             → Doubting file (t .walk) (d || z) ys es
-        doubt-more z ys j m = record {
-          marking = marking-more file (λ (q : ℕ). true) w at marks (s .marking) g h t e k (isNamed t) (λ a b. a) ys m;
-          room = rw (marked-if-length (heldIf (isNamed t) marks (keyOf file (t .row))) ds es (keyOf file (t .row)) i) (s .room);
-          among = λ fs c a. s .among fs (λ q b. doubts-keep q (c q b))
-              (ap (repeatAmong file fs) (going-trace file w at g h t e)
-              ∙ agree-on file fs (w .line) (t .row) (traceAt file (t .walk)) a (t .found) (λ b. unused (doubts-here (c (keyOf file (t .row)) b)))
-              ∙ sym (ap (repeatIn file) (going-trace file w at g h t e)));
-          none = λ a.
-              sym (repeat-on file (w .line) (t .row) (traceAt file (t .walk)) (t .found) k (unused (sym j ∙ or-right d z a)))
-              ∙ sym (ap (repeatIn file) (going-trace file w at g h t e))
-              ∙ s .none (or-left d z a);
-        }
+        doubt-more z ys j m =
+            let key : ℕ = keyOf file (t .row) in
+            let doubt : Bool = heldIf (isNamed t) marks key in
+            record {
+              marking = marking-more file (λ (q : ℕ). true) w at marks (s .marking) g h t e k (isNamed t) (λ a b. a) ys m;
+              room = rw (marked-if-length doubt ds es key i) (s .room);
+              among = λ fs c a. s .among fs (λ q b. marked-keeps doubt ds es key (s .room) i q (c q b))
+                  (ap (repeatAmong file fs) (going-trace file w at g h t e)
+                  ∙ agree-on file fs (w .line) (t .row) (traceAt file (t .walk)) a (t .found) (λ b. unused (marked-here doubt ds es key (s .room) i (c key b)))
+                  ∙ sym (ap (repeatIn file) (going-trace file w at g h t e)));
+              none = λ a.
+                  sym (repeat-on file (w .line) (t .row) (traceAt file (t .walk)) (t .found) k (unused (sym j ∙ or-right d z a)))
+                  ∙ sym (ap (repeatIn file) (going-trace file w at g h t e))
+                  ∙ s .none (or-left d z a);
+            }
 
 -- a line that names a doubtful component as one before it did
 module _ (file ds : List ℕ) (l : ℕ) (x : List ℤ) (t : Trace) where

@@ -2,7 +2,7 @@
 use Prim.Native.Nat.{ℕ, _-_, _<_}
 use mathlib.Core.Path.{_≡_, refl, sym, ap, _∙_}
 use mathlib.Core.List.{List}
-use mathlib.Core.Bool.{Bool, true, false, not, _&&_, true≢false, false≢true}
+use mathlib.Core.Bool.{Bool, true, false, not, _&&_, _||_, true≢false, false≢true}
 use mir.Syntax.{w64}
 use mir.Val.{SFits}
 use mir.ValLaws.{toZ-ofZ}
@@ -13,7 +13,7 @@ use Rattle.text.proofs.Lists.{and-left, and-right}
 use Rattle.form.proofs.CompareLaws.{same-eq}
 use Rattle.slots.specs.Hashes.{hashed}
 use Rattle.slots.specs.Marks.{mayHold, marked}
-use Rattle.slots.proofs.MarkLaws.{marking-length}
+use Rattle.slots.proofs.MarkLaws.{marking-length, marking-keeps, marking-here}
 use Rattle.walking.specs.declared.Turn.{Turn}
 use Rattle.walking.specs.Judging.{columnAt}
 use Rattle.walking.proofs.LineLaws.{column}
@@ -131,6 +131,51 @@ module _ (file : List ℕ) (n : ℕ) (ds marks : List ℕ) (a : Telling file n d
   pub telling-room : 0 < length marks
   telling-room = a .room
 
+-- marks with one more, where a test passes
 pub marked-if-length : (b : Bool) (xs ys : List ℕ) (h : ℕ) → ys ≡ markedIf b xs h → length ys ≡ length xs
 unfolding markedIf
 marked-if-length b xs ys h e = ap length e ∙ marking-length xs h b
+
+and-true : (a : Bool) → (a && true) ≡ false → a ≡ false
+and-true true k = k
+and-true false k = refl
+
+not-both : (a v b : Bool) → (a ≡ true → v ≡ true → b ≡ true) → (b && v) ≡ false → (a && v) ≡ false
+not-both false v b f k = refl
+not-both true false b f k = refl
+not-both true true b f k = absurd (true≢false (rw (f refl refl) at k))
+
+module _ (b : Bool) (xs ys : List ℕ) (h : ℕ) (some : 0 < length xs) (e : ys ≡ markedIf b xs h) where
+  -- what has no mark then had none before
+  pub marked-keeps : (q : ℕ) → mayHold ys q ≡ false → mayHold xs q ≡ false
+  unfolding markedIf
+  marked-keeps q c = marking-keeps xs h some b q (rw e at c)
+
+  -- what was marked has one
+  pub marked-here : mayHold ys h ≡ false → b ≡ false
+  unfolding markedIf
+  marked-here c = and-true b (marking-here xs h some b true h (λ j. refl) (rw e at c))
+
+  -- what has none is not what was marked
+  pub marked-not : (a v : Bool) (g : ℕ) → (v ≡ true → h ≡ g) → (a ≡ true → v ≡ true → b ≡ true) → mayHold ys g ≡ false → (a && v) ≡ false
+  unfolding markedIf
+  marked-not a v g k f c = not-both a v b f (marking-here xs h some b v g k (rw e at c))
+
+-- a name that is not doubtful was not used
+pub not-used : (a m u : Bool) → (a && m) ≡ false → (m ≡ false → u ≡ false) → (a && u) ≡ false
+not-used false m u k f = refl
+not-used true m u k f = f k
+
+-- among doubtful names that hold all that are used, a name is used as it is among all
+pub among-all : (a m u : Bool) → (m ≡ false → (a && u) ≡ false) → (a && (m && u)) ≡ (a && u)
+among-all false m u k = refl
+among-all true true u k = refl
+among-all true false u k = sym (k refl)
+
+pub or-left : (a b : Bool) → (a || b) ≡ false → a ≡ false
+or-left false b k = refl
+or-left true b k = k
+
+pub or-right : (a b : Bool) → (a || b) ≡ false → b ≡ false
+or-right false b k = k
+or-right true b k = absurd (true≢false k)

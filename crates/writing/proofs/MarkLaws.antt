@@ -1,18 +1,16 @@
 -- Laws of names used twice among rows, found by marks from the last row back.
 use Prim.Native.Nat.{ℕ, zero, suc, _+_, _-_, _/_, _≤_, _<_}
-use mathlib.Core.Path.{_≡_, refl, sym, ap, _∙_}
+use mathlib.Core.Path.{_≡_, refl, sym, ap, ap₂, _∙_}
 use mathlib.Core.List.{List, [], _∷_}
-use mathlib.Core.Bool.{Bool, true, false, not, _&&_, _||_, true≢false}
+use mathlib.Core.Bool.{Bool, true, false, not, _&&_, _||_}
 use native.Mathlib.Omega.{arith}
 use borrow.Author.Tests.{not-true}
 use lib.IntN.{ℤ}
 use lib.ListN.{length, drop}
 use Rattle.slots.specs.Marks.{mayHold}
-use Rattle.slots.proofs.MarkLaws.{marking-keeps, marking-here}
 use Rattle.naming.specs.Names.{leadsComponent, sameNames}
 use Rattle.naming.specs.Marks.{keyOf, heldIf, markedIf}
-use Rattle.naming.proofs.KeyLaws.{same-key, marked-if-length, asked-used, asked-not}
-use Rattle.naming.proofs.DoubtLaws.{not-both, not-used, and-true, or-left, or-right}
+use Rattle.naming.proofs.KeyLaws.{same-key, marked-if-length, marked-keeps, marked-here, marked-not, not-used, among-all, or-left, or-right, asked-used, asked-not}
 use Rattle.writing.specs.WholeRows.{wholeRows, rowIn}
 use Rattle.writing.specs.Writable.{namesIt, namedIn, twice}
 use Rattle.writing.specs.Marks.{againAmong, twiceAmong, Told, Doubted}
@@ -47,23 +45,19 @@ record Clear (bytes : List ℕ) (p : ℕ → Bool) (rows : List (List ℤ)) (mar
 
 -- one row more takes no mark away, and marks the name that it has, if it is asked for
 module _ (bytes : List ℕ) (p : ℕ → Bool) (ys : List (List ℤ)) (marks : List ℕ) (s : Clear bytes p ys marks) (y : List ℤ) (b : Bool) (f : leadsComponent y ≡ true → p (keyOf bytes y) ≡ true → b ≡ true) where
-  clear-before : (g : ℕ) → mayHold (markedIf b marks (keyOf bytes y)) g ≡ false → mayHold marks g ≡ false
-  unfolding markedIf
-  clear-before g h = marking-keeps marks (keyOf bytes y) (s .room) b g h
+  module _ (zs : List ℕ) (m : zs ≡ markedIf b marks (keyOf bytes y)) where
+    clear-here : (x : List ℤ) → p (keyOf bytes x) ≡ true → mayHold zs (keyOf bytes x) ≡ false → namesIt bytes x y ≡ false
+    unfolding namesIt
+    clear-here x a h =
+        marked-not b marks zs (keyOf bytes y) (s .room) m (leadsComponent y) (sameNames bytes x bytes y) (keyOf bytes x)
+        (λ e. sym (same-key bytes x bytes y e)) (λ i j. f i (ap p (sym (same-key bytes x bytes y j)) ∙ a)) h
 
-  clear-here : (x : List ℤ) → p (keyOf bytes x) ≡ true → mayHold (markedIf b marks (keyOf bytes y)) (keyOf bytes x) ≡ false → namesIt bytes x y ≡ false
-  unfolding markedIf namesIt
-  clear-here x a h =
-      not-both (leadsComponent y) (sameNames bytes x bytes y) b
-      (λ i j. f i (ap p (sym (same-key bytes x bytes y j)) ∙ a))
-      (marking-here marks (keyOf bytes y) (s .room) b (sameNames bytes x bytes y) (keyOf bytes x) (λ e. sym (same-key bytes x bytes y e)) h)
-
-  clear-more : Clear bytes p (y ∷ ys) (markedIf b marks (keyOf bytes y))
-  unfolding namedIn
-  clear-more = record {
-    room = rw (marked-if-length b marks (markedIf b marks (keyOf bytes y)) (keyOf bytes y) refl) (s .room);
-    clear = λ x a h. rw (clear-here x a h) (s .clear x a (clear-before (keyOf bytes x) h));
-  }
+    clear-more : Clear bytes p (y ∷ ys) zs
+    unfolding namedIn
+    clear-more = record {
+      room = rw (marked-if-length b marks zs (keyOf bytes y) m) (s .room);
+      clear = λ x a h. rw (clear-here x a h) (s .clear x a (marked-keeps b marks zs (keyOf bytes y) (s .room) m (keyOf bytes x) h));
+    }
 
 -- the rows from a number on, with the one before it
 module _ (rows : List ℤ) (i : ℕ) (h : 0 < i) (w : i ≤ length rows / 10) (row : List ℤ) (a : row ≡ rowIn rows (i - 1)) where
@@ -102,13 +96,7 @@ doubt-start rows bytes marks ds k l = record {
 agree-on : (bytes es : List ℕ) (x : List ℤ) (xs : List (List ℤ)) → twiceAmong bytes es xs ≡ twice bytes xs
     → (mayHold es (keyOf bytes x) ≡ false → (leadsComponent x && namedIn bytes x xs) ≡ false) → twiceAmong bytes es (x ∷ xs) ≡ twice bytes (x ∷ xs)
 unfolding twice twiceAmong againAmong
-agree-on bytes es x xs i = go (leadsComponent x) (mayHold es (keyOf bytes x)) (namedIn bytes x xs)
-  where
-    go : (a m u : Bool) → (m ≡ false → (a && u) ≡ false) → ((a && (m && u)) || twiceAmong bytes es xs) ≡ ((a && u) || twice bytes xs)
-    go false m u k = i
-    go true true u k = ap (λ (c : Bool). u || c) i
-    go true false false k = i
-    go true false true k = absurd (true≢false (k refl))
+agree-on bytes es x xs i k = ap₂ _||_ (among-all (leadsComponent x) (mayHold es (keyOf bytes x)) (namedIn bytes x xs) k) i
 
 module _ (rows : List ℤ) (bytes marks₀ marks ds₀ ds : List ℕ) (i : ℕ) (d : Bool) (s : Doubting rows bytes marks₀ marks ds₀ ds i d) where
   pub doubt-length : length marks ≡ length marks₀
@@ -142,30 +130,21 @@ module _ (rows : List ℤ) (bytes marks₀ marks ds₀ ds : List ℕ) (i : ℕ) 
       unfolding twice
       none-on c k = rw (behind rows i h (s .within) row a, unused k) c
 
-      module _ (es : List ℕ) (o : es ≡ markedIf (heldIf (leadsComponent row) marks (keyOf bytes row)) ds (keyOf bytes row)) where
-        doubts-keep : (q : ℕ) → mayHold es q ≡ false → mayHold ds q ≡ false
-        unfolding markedIf
-        doubts-keep q c = marking-keeps ds (keyOf bytes row) (s .room) (heldIf (leadsComponent row) marks (keyOf bytes row)) q (rw o at c)
-
-        doubts-here : mayHold es (keyOf bytes row) ≡ false → heldIf (leadsComponent row) marks (keyOf bytes row) ≡ false
-        unfolding markedIf
-        doubts-here c =
-            and-true (heldIf (leadsComponent row) marks (keyOf bytes row))
-            (marking-here ds (keyOf bytes row) (s .room) (heldIf (leadsComponent row) marks (keyOf bytes row)) true (keyOf bytes row) (λ j. refl) (rw o at c))
-
       pub doubt-more : (b z : Bool) (ys es : List ℕ) → b ≡ leadsComponent row → z ≡ heldIf b marks (keyOf bytes row) → ys ≡ markedIf b marks (keyOf bytes row)
           → es ≡ markedIf (heldIf b marks (keyOf bytes row)) ds (keyOf bytes row) → Doubting rows bytes marks₀ ys ds₀ es (i - 1) (d || z)
       doubt-more b z ys es n c m f =
-          let o : es ≡ markedIf (heldIf (leadsComponent row) marks (keyOf bytes row)) ds (keyOf bytes row) = rw n at f in
+          let key : ℕ = keyOf bytes row in
+          let doubt : Bool = heldIf (leadsComponent row) marks key in
+          let o : es ≡ markedIf doubt ds key = rw n at f in
           record {
             within = let w = doubt-within in omega arith;
-            told = rw (behind rows i h (s .within) row a, m, n) (clear-more bytes (λ (q : ℕ). true) (drop i (wholeRows rows)) marks (s .told) row (leadsComponent row) (λ j k. j));
-            room = rw (marked-if-length (heldIf b marks (keyOf bytes row)) ds es (keyOf bytes row) f) (s .room);
+            told = rw (behind rows i h (s .within) row a) (clear-more bytes (λ (q : ℕ). true) (drop i (wholeRows rows)) marks (s .told) row (leadsComponent row) (λ j k. j) ys (rw n at m));
+            room = rw (marked-if-length doubt ds es key o) (s .room);
             among = λ gs k. rw (behind rows i h (s .within) row a)
-                (agree-on bytes gs row (drop i (wholeRows rows)) (s .among gs (λ q j. doubts-keep es o q (k q j))) (λ j. unused (doubts-here es o (k (keyOf bytes row) j))));
+                (agree-on bytes gs row (drop i (wholeRows rows)) (s .among gs (λ q j. marked-keeps doubt ds es key (s .room) o q (k q j))) (λ j. unused (marked-here doubt ds es key (s .room) o (k key j))));
             none = λ k. none-on (s .none (or-left d z k)) (sym (rw n at c) ∙ or-right d z k);
-            long = marked-if-length b marks ys (keyOf bytes row) m ∙ s .long;
-            wide = marked-if-length (heldIf b marks (keyOf bytes row)) ds es (keyOf bytes row) f ∙ s .wide;
+            long = marked-if-length b marks ys key m ∙ s .long;
+            wide = marked-if-length doubt ds es key o ∙ s .wide;
           }
 
 -- what becomes of the names: none is doubtful; or they are gone through again
@@ -239,6 +218,6 @@ module _ (rows : List ℤ) (bytes ds marks₀ marks : List ℕ) (i : ℕ) (s : P
         within = let w = pair-within in omega arith;
         few = s .few;
         none = rw k at pair-here ∙ s .none;
-        told = rw (behind rows i h (s .within) row a, m) (clear-more bytes (mayHold ds) (drop i (wholeRows rows)) marks (s .told) row (heldIf (leadsComponent row) ds (keyOf bytes row)) asked);
+        told = rw (behind rows i h (s .within) row a) (clear-more bytes (mayHold ds) (drop i (wholeRows rows)) marks (s .told) row (heldIf (leadsComponent row) ds (keyOf bytes row)) asked zs m);
         long = pair-marked (heldIf (leadsComponent row) ds (keyOf bytes row)) (keyOf bytes row) zs m;
       }
