@@ -41,7 +41,7 @@ pub record Telling (file : List ℕ) (n : ℕ) (ds marks : List ℕ) : Type 0 wh
   pub room : 0 < length marks
   pub clear : (x : List ℤ) → mayHold ds (keyOf file x) ≡ true → mayHold marks (keyOf file x) ≡ false → isUsed file n x ≡ false
 
--- every name that a file uses twice is doubtful, and without a doubt there is none
+-- the first line that names a component again names a doubtful one, and without a doubt there is no such line
 pub record Doubted (file ds : List ℕ) (d : Bool) : Type 0 where
   pub among : repeatAmong file ds (traceOf file) ≡ repeatOf file
   pub none : d ≡ false → repeatOf file ≡ 0

@@ -25,7 +25,7 @@ pub record Told (bytes : List ℕ) (rows : List (List ℤ)) (ds marks : List ℕ
   pub room : 0 < length marks
   pub clear : (x : List ℤ) → mayHold ds (keyOf bytes x) ≡ true → mayHold marks (keyOf bytes x) ≡ false → namedIn bytes x rows ≡ false
 
--- every name that rows use twice is doubtful, and without a doubt there is none
+-- two rows name one component exactly if two name a doubtful one, and without a doubt none do
 pub record Doubted (bytes ds : List ℕ) (rows : List (List ℤ)) (d : Bool) : Type 0 where
   pub among : twiceAmong bytes ds rows ≡ twice bytes rows
   pub none : d ≡ false → twice bytes rows ≡ false
