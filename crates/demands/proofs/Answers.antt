@@ -10,27 +10,27 @@ use lib.Dec.{eqb, ltb}
 use lib.IntN.{ℤ}
 use lib.ListN.{length, take, drop}
 use lib.Seq.{take-at, drop-at}
-use Rattle.text.specs.LineRules.{File}
+use Rattle.law.specs.Lines.{File}
 use Rattle.text.specs.Lines.{linesOf}
 use Rattle.text.proofs.LineSpelling.{lines-sound, lines-unique}
-use Rattle.form.specs.Values.{Rec}
-use Rattle.form.specs.declared.Rules.the-variants.{Idf3}
-use Rattle.lines.specs.Rows.{width}
-use Rattle.records.specs.Automaton.{start, accepting}
-use Rattle.records.specs.declared.State.{State}
-use Rattle.records.specs.Answers.{limit, reply}
-use Rattle.reading.specs.Replies.{checkReply, readReply, readRows, rowsOf}
-use Rattle.records.specs.declared.Reply.{Reply}
-use Rattle.comparing.proofs.VerdictLaws.{accepted-small}
-use Rattle.files.specs.Told.{Told, ended, broken, toldFrom}
-use Rattle.files.specs.WholeRules.{FileSays}
-use Rattle.files.specs.Outcomes.{replyOf, RowsMean}
-use Rattle.files.proofs.WholeFiles as whole
-use Rattle.files.proofs.LineNumbers.{told-number}
-use Rattle.files.proofs.CheckTold.{check-told}
-use Rattle.files.proofs.Checked.{check-accepts, check-count, check-large, check-long, check-rows}
-use Rattle.files.proofs.ReadSays.{read-puts}
-use Rattle.demands.specs.Answers.{Fails, Short, Answered, accepted, too-large, refused, too-early}
+use Rattle.law.specs.Values.{Rec}
+use Rattle.law.specs.declared.Rules.the-variants.{Idf3}
+use Rattle.law.specs.Rows.{width, RowsMean}
+use Rattle.order.specs.Automaton.{start, accepting}
+use Rattle.order.specs.declared.State.{State}
+use Rattle.law.specs.Answers.{limit, reply}
+use Rattle.read.specs.Replies.{checkReply, readReply, readRows, rowsOf}
+use Rattle.law.specs.declared.Reply.{Reply}
+use Rattle.same.proofs.VerdictLaws.{accepted-small}
+use Rattle.shown_read.specs.Told.{Told, ended, broken, toldFrom}
+use Rattle.law.specs.Files.{FileSays}
+use Rattle.shown_read.specs.Outcomes.{replyOf}
+use Rattle.shown_read.proofs.WholeFiles as whole
+use Rattle.shown_read.proofs.LineNumbers.{told-number}
+use Rattle.shown_read.proofs.CheckTold.{check-told}
+use Rattle.shown_read.proofs.Checked.{check-accepts, check-count, check-large, check-long, check-rows}
+use Rattle.shown_read.proofs.ReadSays.{read-puts}
+use Rattle.law.specs.Given.{Fails, Short, Answered, accepted, too-large, refused, too-early}
 
 module _ (file : List ℕ) where
   ended-answers : length file ≤ limit → (rs : List Rec) (st : State) (b : Bool) → accepting st ≡ b → toldFrom Idf3 [] start (linesOf file) ≡ ended rs st

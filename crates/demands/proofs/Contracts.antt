@@ -4,16 +4,16 @@ use contract.Lifetimes.{Lfts}
 use denote.Triple.Clauses.{AtExit}
 use denote.Ref.{now}
 use borrow.Fn.Kinds.{Dens, resT, endedOf}
-use Rattle.reading.proofs.whole.check.Kinds as check
-use Rattle.reading.proofs.whole.check.Reads as check-says
-use Rattle.reading.proofs.whole.read.Kinds as read
-use Rattle.reading.proofs.whole.read.Reads as read-says
-use Rattle.writing.proofs.whole.write.Kinds as write
-use Rattle.writing.proofs.whole.write.Reads as write-says
-use Rattle.comparing.proofs.same.Kinds as same
-use Rattle.comparing.proofs.same.Reads as same-says
-use Rattle.judging.proofs.whole.judge.Kinds as judge
-use Rattle.judging.proofs.whole.judge.Reads as judge-says
+use Rattle.read.proofs.whole.check.Kinds as check
+use Rattle.read.proofs.whole.check.Reads as check-says
+use Rattle.read.proofs.whole.read.Kinds as read
+use Rattle.read.proofs.whole.read.Reads as read-says
+use Rattle.write.proofs.whole.write.Kinds as write
+use Rattle.write.proofs.whole.write.Reads as write-says
+use Rattle.same.proofs.same.Kinds as same
+use Rattle.same.proofs.same.Reads as same-says
+use Rattle.judge.proofs.whole.judge.Kinds as judge
+use Rattle.judge.proofs.whole.judge.Reads as judge-says
 use Rattle.demands.specs.Outcomes.{Checks, Reads, Writes, Compares, Judges}
 
 -- of the lifetimes, the arguments, the result and the arguments at exit; a slice's bytes or numbers are its `now`

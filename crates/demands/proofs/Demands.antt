@@ -7,36 +7,35 @@ use mathlib.Core.Bool.{Bool, true, false}
 use native.Mathlib.Omega.{arith}
 use lib.IntN.{ℤ}
 use lib.ListN.{length, take, drop}
-use Rattle.text.specs.LineRules.{File}
+use Rattle.law.specs.Lines.{File}
 use Rattle.text.proofs.LineSpelling.{lines-complete}
-use Rattle.form.specs.Values.{Rec}
-use Rattle.form.specs.declared.Rules.the-variants.{Idf3}
-use Rattle.lines.specs.Rows.{width}
-use Rattle.permitted.specs.ListRules.{Permitted, Distinct}
-use Rattle.records.specs.Answers.{limit, verdict, reply}
-use Rattle.reading.specs.Replies.{checkReply, rowsOf}
-use Rattle.records.specs.declared.Reply.{Reply}
-use Rattle.reading.proofs.RowLaws as reads
-use Rattle.writing.specs.Outcomes.{writeReply, writeText}
-use Rattle.records.specs.declared.Verdict.{Verdict}
-use Rattle.comparing.specs.Ignoring.{nothing}
-use Rattle.comparing.specs.SameLists.{sameFiles}
-use Rattle.comparing.specs.Verdicts.{foundSame, sameReply}
-use Rattle.comparing.proofs.VerdictLaws.{first-refused, second-refused}
-use Rattle.files.specs.WholeRules.{FileSays}
-use Rattle.files.specs.Outcomes.{RowsMean}
-use Rattle.files.proofs.WholeFiles as files
-use Rattle.files.proofs.Checked.{check-large, check-accepts, check-count, check-first, check-early}
-use Rattle.files.proofs.RowsTold as told
-use Rattle.files.proofs.ReadSays as reading
-use Rattle.written.specs.Texts.{canonicalText, RowsSay}
-use Rattle.written.proofs.RowsWritten as rows
-use Rattle.written.proofs.RoundTrip as texts
-use Rattle.alike.proofs.Sameness as alike
-use Rattle.entries.specs.JudgeRules.{Judged}
-use Rattle.entries.proofs.JudgedFiles as entries
+use Rattle.law.specs.Values.{Rec}
+use Rattle.law.specs.declared.Rules.the-variants.{Idf3}
+use Rattle.law.specs.Rows.{width, RowsMean, RowsSay}
+use Rattle.law.specs.Lists.{Permitted, Distinct}
+use Rattle.law.specs.Answers.{limit, verdict, reply}
+use Rattle.read.specs.Replies.{checkReply, rowsOf}
+use Rattle.law.specs.declared.Reply.{Reply}
+use Rattle.read.proofs.RowLaws as reads
+use Rattle.write.specs.Outcomes.{writeReply, writeText}
+use Rattle.law.specs.declared.Verdict.{Verdict}
+use Rattle.same.specs.Ignoring.{nothing}
+use Rattle.same.specs.SameLists.{sameFiles}
+use Rattle.same.specs.Verdicts.{foundSame, sameReply}
+use Rattle.same.proofs.VerdictLaws.{first-refused, second-refused}
+use Rattle.law.specs.Files.{FileSays}
+use Rattle.shown_read.proofs.WholeFiles as files
+use Rattle.shown_read.proofs.Checked.{check-large, check-accepts, check-count, check-first, check-early}
+use Rattle.shown_read.proofs.RowsTold as told
+use Rattle.shown_read.proofs.ReadSays as reading
+use Rattle.law.specs.Canonical.{canonicalText}
+use Rattle.shown_write.proofs.RowsWritten as rows
+use Rattle.shown_write.proofs.RoundTrip as texts
+use Rattle.shown_same.proofs.Sameness as alike
+use Rattle.law.specs.Judging.{Judged}
+use Rattle.shown_judge.proofs.JudgedFiles as entries
 use Rattle.demands.specs.Outcomes.{Checks, Reads, Writes, Compares, Judges}
-use Rattle.demands.specs.Answers.{Fails, Short, Answered, Written}
+use Rattle.law.specs.Given.{Fails, Short, Answered, Written}
 use Rattle.demands.proofs.WriteAnswers.{write-answers, written-one, written-zero}
 use Rattle.demands.proofs.Answers.{check-answers, answered-one, answered-line, answered-early, read-list, front-means, behind-kept}
 

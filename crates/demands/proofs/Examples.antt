@@ -5,63 +5,63 @@ use mathlib.Core.Path.{_≡_, refl, sym, ap, subst}
 use mathlib.Core.List.{List, [], _∷_, _++_}
 use native.Mathlib.Omega.{arith}
 use lib.ListN.{length, replicate, length-replicate}
-use Rattle.text.specs.Bytes.{permitted, allOf, begins, ascii}
-use Rattle.cutting.specs.FirstField.{span, endsWell, bareAt, closedAt, quotedAt, fieldAt, fieldOf}
-use Rattle.cutting.specs.Fields.{fieldsIn, fieldsOf}
+use Rattle.law.specs.Bytes.{permitted, allOf, begins, ascii}
+use Rattle.text_fields.specs.FirstField.{span, endsWell, bareAt, closedAt, quotedAt, fieldAt, fieldOf}
+use Rattle.text_fields.specs.Fields.{fieldsIn, fieldsOf}
 use Rattle.text.specs.Lines.{endLen, contentLen, lineEnd, linesOf}
 use Rattle.text.proofs.LineSpelling.{lines-sound}
-use Rattle.measure.specs.Numbers.{digitHere, judge, decimals, whole, body, readNumber}
-use Rattle.measure.specs.Integers.{digits, unsigned, readInteger}
-use Rattle.measure.specs.DateRules.{datePieces}
-use Rattle.measure.specs.Dates.{isTwo, fitsIn, isDate}
-use Rattle.printing.specs.Printing.{numeralOf, decimalsOf, magnitudeOf, signOf, printed}
-use Rattle.form.specs.Values.{Rec}
-use Rattle.form.specs.Names.{wordsOf, sectionNames}
-use Rattle.form.specs.Compare.{sameBytes, folded, wordKey, sameWord, placeOf, wordAt}
-use Rattle.form.specs.Sections.{sections}
-use Rattle.form.specs.Kinds.{kindAt, sectionOf, lineOf, roleOf}
-use Rattle.form.specs.Layouts.{layoutOf, typesOf}
-use Rattle.layouts.specs.Letters.{isKind}
-use Rattle.form.specs.Fits.{kept, within, beyond, meaning, barred, isEmpty, goodText, fits}
+use Rattle.number.specs.Numbers.{digitHere, judge, decimals, whole, body, readNumber}
+use Rattle.number.specs.Integers.{digits, unsigned, readInteger}
+use Rattle.law.specs.Dates.{datePieces, isTwo, fitsIn, isDate}
+use Rattle.law.specs.Printing.{numeralOf, decimalsOf, magnitudeOf, signOf, printed}
+use Rattle.law.specs.Values.{Rec}
+use Rattle.law.specs.Words.{wordsOf, sameBytes, wordAt}
+use Rattle.law.specs.Sections.{sectionNames, sections}
+use Rattle.form.specs.Compare.{folded, placeOf}
+use Rattle.law.specs.Kinds.{kindAt, sectionOf, lineOf, roleOf}
+use Rattle.law.specs.Layouts.{layoutOf, typesOf}
+use Rattle.form_layouts.specs.Letters.{isKind}
+use Rattle.law.specs.Fits.{kept, within, meaning, barred, isEmpty, goodText, fits}
+use Rattle.form.specs.Fits.{beyond}
 use Rattle.form.specs.Reading.{readField, lineAs, keyFrom, keywordOf}
-use Rattle.form.specs.declared.Rules.the-variants.{Idf3}
-use Rattle.spelling.specs.Canonical as canonical
-use Rattle.spelling.specs.Canonical.{needsQuotes, canonicalField, canonicalFields, joined, canonicalLine, canonicalRecord}
-use Rattle.lines.specs.LineKinds.{kindOf}
-use Rattle.lines.specs.Rows.{entryAt, fillFrom, filled}
-use Rattle.loops.specs.Loops.{eqZ, loopAfter}
-use Rattle.records.specs.Marks.{shapeOf, manyLoops}
-use Rattle.records.specs.Stages.{mayOpen, after}
-use Rattle.records.specs.Places.{dataKind, keyKind}
-use Rattle.records.specs.Automaton.{mayStand, moved, stepped}
-use Rattle.walking.specs.Judging.{filledBy, ofKind, dataBy, judged}
-use Rattle.records.specs.Answers.{limit, reply, verdict}
-use Rattle.walking.specs.Walks.{lineIn, turnOf, traceIn, traceAt}
-use Rattle.spans.specs.Texts.{textIs, sameTexts}
-use Rattle.naming.specs.Names.{sameNames, usedIn, repeatIn}
-use Rattle.reading.specs.Replies.{endedBy, surveyed, rowsIn, rowsOf, checkReply, readReply}
-use Rattle.columns.specs.Columns.{liesIn, rangeFits, integerFits, numberFits, wordFits, allZero, fieldsFit, rowFits}
-use Rattle.columns.specs.Records.{valuesIn}
-use Rattle.setting.specs.LineText.{lineText}
-use Rattle.writing.specs.WholeRows.{chunks, wholeRows}
-use Rattle.writing.specs.Writable.{rowStep, carries, namesIt, namedIn, twice, writable}
-use Rattle.writing.specs.Outcomes.{textOf, writeReply, writeText}
-use Rattle.comparing.specs.Ignoring.{ignoredAt}
-use Rattle.comparing.specs.SameRows.{sameField, agreesAt, sameFrom, sameRow}
-use Rattle.comparing.specs.SameLists.{listIn, sameLists}
-use Rattle.comparing.specs.Verdicts.{sameReply}
-use Rattle.judging.specs.Entries as entries
-use Rattle.judging.specs.Verdicts as judging
-use Rattle.judging.specs.Verdicts.{judgeReply}
-use Rattle.records.specs.declared.Reply.{Reply}
-use Rattle.files.specs.WholeRules.{FileSays}
-use Rattle.files.proofs.Checked.{check-large}
-use Rattle.written.specs.Texts.{canonicalText, RowsSay}
-use Rattle.written.proofs.RowsWritten.{unwritable-iff}
-use Rattle.written.proofs.RoundTrip.{file-rows}
-use Rattle.entries.specs.JudgeRules.{Judged}
+use Rattle.law.specs.declared.Rules.the-variants.{Idf3}
+use Rattle.law.specs.Canonical as canonical
+use Rattle.law.specs.Canonical.{needsQuotes, canonicalField, canonicalFields, joined, canonicalLine, canonicalRecord, canonicalText}
+use Rattle.line_rows.specs.LineKinds.{kindOf}
+use Rattle.line_rows.specs.Rows.{entryAt, fillFrom, filled}
+use Rattle.order_loops.specs.Loops.{eqZ, loopAfter}
+use Rattle.law.specs.Records.{shapeOf, manyLoops}
+use Rattle.order.specs.Stages.{mayOpen, after}
+use Rattle.order.specs.Places.{dataKind, keyKind}
+use Rattle.order.specs.Automaton.{mayStand, moved, stepped}
+use Rattle.walk.specs.Judging.{filledBy, ofKind, dataBy, judged}
+use Rattle.law.specs.Answers.{limit, reply, verdict}
+use Rattle.walk.specs.Walks.{lineIn, turnOf, traceIn, traceAt}
+use Rattle.rows_texts.specs.Texts.{textIs, sameTexts}
+use Rattle.names.specs.Names.{sameNames, usedIn, repeatIn}
+use Rattle.read.specs.Replies.{endedBy, surveyed, rowsIn, rowsOf, checkReply, readReply}
+use Rattle.write_columns.specs.Columns.{liesIn, rangeFits, integerFits, numberFits, wordFits, allZero, fieldsFit, rowFits}
+use Rattle.write_columns.specs.Records.{valuesIn}
+use Rattle.write_lines.specs.LineText.{lineText}
+use Rattle.write.specs.WholeRows.{chunks, wholeRows}
+use Rattle.write.specs.Writable.{rowStep, carries, namesIt, namedIn, twice, writable}
+use Rattle.write.specs.Outcomes.{textOf, writeReply, writeText}
+use Rattle.same.specs.Ignoring.{ignoredAt}
+use Rattle.same.specs.SameRows.{sameField, agreesAt, sameFrom, sameRow}
+use Rattle.same.specs.SameLists.{listIn, sameLists}
+use Rattle.same.specs.Verdicts.{sameReply}
+use Rattle.judge.specs.Entries as entries
+use Rattle.judge.specs.Verdicts as judging
+use Rattle.judge.specs.Verdicts.{judgeReply}
+use Rattle.law.specs.declared.Reply.{Reply}
+use Rattle.law.specs.Files.{FileSays}
+use Rattle.shown_read.proofs.Checked.{check-large}
+use Rattle.law.specs.Rows.{RowsSay}
+use Rattle.shown_write.proofs.RowsWritten.{unwritable-iff}
+use Rattle.shown_write.proofs.RoundTrip.{file-rows}
+use Rattle.law.specs.Judging.{Judged}
 use Rattle.demands.specs.Outcomes.{Checks}
-use Rattle.demands.specs.Answers.{Fails, Short}
+use Rattle.law.specs.Given.{Fails, Short}
 use Rattle.demands.proofs.Demands.{accepted-iff, first-line, too-early, same-iff, written-iff, judged as judged-iff}
 use Rattle.demands.proofs.WriteAnswers.{written-zero}
 
@@ -130,7 +130,7 @@ pub answers :
     × (judgeReply board library ≡ verdict 16 0 1 1)
     × (judgeReply library entry ≡ verdict 17 0 0 1)
     × (judgeReply board board ≡ verdict 17 0 0 2)
-unfolding judgeReply judging.withLibrary judging.matched judging.placed judging.placedFrom judging.typeOf judging.typeFrom entries.lacksEntry entries.hasEntry entries.entryIn entries.refers sameNames sameTexts textIs sameReply sameLists sameRow sameFrom agreesAt sameField ignoredAt listIn readReply checkReply surveyed endedBy repeatIn usedIn rowsIn traceAt traceIn turnOf lineIn judged ofKind dataBy filledBy kindOf filled fillFrom entryAt lineEnd contentLen endLen lineAs begins allOf permitted fieldsOf fieldsIn fieldOf fieldAt bareAt closedAt quotedAt endsWell span keywordOf keyFrom folded sameBytes sameWord wordKey placeOf wordsOf sections sectionNames kindAt sectionOf lineOf roleOf layoutOf typesOf keyKind dataKind mayStand mayOpen after moved stepped shapeOf manyLoops loopAfter eqZ meaning barred kept within beyond readField readNumber body whole decimals judge digitHere readInteger unsigned digits isDate fitsIn isTwo datePieces
+unfolding judgeReply judging.withLibrary judging.matched judging.placed judging.placedFrom judging.typeOf judging.typeFrom entries.lacksEntry entries.hasEntry entries.entryIn entries.refers sameNames sameTexts textIs sameReply sameLists sameRow sameFrom agreesAt sameField ignoredAt listIn readReply checkReply surveyed endedBy repeatIn usedIn rowsIn traceAt traceIn turnOf lineIn judged ofKind dataBy filledBy kindOf filled fillFrom entryAt lineEnd contentLen endLen lineAs begins allOf permitted fieldsOf fieldsIn fieldOf fieldAt bareAt closedAt quotedAt endsWell span keywordOf keyFrom folded sameBytes placeOf wordsOf sections sectionNames kindAt sectionOf lineOf roleOf layoutOf typesOf keyKind dataKind mayStand mayOpen after moved stepped shapeOf manyLoops loopAfter eqZ meaning barred kept within beyond readField readNumber body whole decimals judge digitHere readInteger unsigned digits isDate fitsIn isTwo datePieces
 answers = (refl, refl, refl, refl, refl, refl, refl, refl, refl, refl, refl, refl, refl, refl, refl, refl)
 
 -- the rows of a file, written over its bytes: enough room, too little; no rows
@@ -139,7 +139,7 @@ pub written :
     × (writeReply (rowsOf library) library 60 ≡ reply 14 0 61)
     × (writeReply [] library 60 ≡ reply 15 0 0)
     × (writeText (rowsOf other-words) other-words (replicate 61 46) ≡ library)
-unfolding writeReply writeText textOf lineText canonicalRecord canonicalLine canonicalFields canonicalField canonical.written joined needsQuotes isEmpty printed signOf magnitudeOf numeralOf decimalsOf wordAt isKind wholeRows chunks writable carries rowStep twice namedIn namesIt sameNames sameTexts rowFits fieldsFit allZero rangeFits liesIn integerFits numberFits wordFits fits goodText valuesIn rowsIn traceAt traceIn turnOf lineIn judged ofKind dataBy filledBy kindOf filled fillFrom entryAt lineEnd contentLen endLen lineAs begins allOf permitted fieldsOf fieldsIn fieldOf fieldAt bareAt closedAt quotedAt endsWell span keywordOf keyFrom folded sameBytes sameWord wordKey placeOf wordsOf sections sectionNames kindAt sectionOf lineOf roleOf layoutOf typesOf keyKind dataKind mayStand mayOpen after moved stepped shapeOf manyLoops loopAfter eqZ meaning barred kept within beyond readField readNumber body whole decimals judge digitHere readInteger unsigned digits isDate fitsIn isTwo datePieces
+unfolding writeReply writeText textOf lineText canonicalRecord canonicalLine canonicalFields canonicalField canonical.written joined needsQuotes isEmpty printed signOf magnitudeOf numeralOf decimalsOf wordAt isKind wholeRows chunks writable carries rowStep twice namedIn namesIt sameNames sameTexts rowFits fieldsFit allZero rangeFits liesIn integerFits numberFits wordFits fits goodText valuesIn rowsIn traceAt traceIn turnOf lineIn judged ofKind dataBy filledBy kindOf filled fillFrom entryAt lineEnd contentLen endLen lineAs begins allOf permitted fieldsOf fieldsIn fieldOf fieldAt bareAt closedAt quotedAt endsWell span keywordOf keyFrom folded sameBytes placeOf wordsOf sections sectionNames kindAt sectionOf lineOf roleOf layoutOf typesOf keyKind dataKind mayStand mayOpen after moved stepped shapeOf manyLoops loopAfter eqZ meaning barred kept within beyond readField readNumber body whole decimals judge digitHere readInteger unsigned digits isDate fitsIn isTwo datePieces
 written = (refl, refl, refl, refl)
 
 -- so they meet the premises

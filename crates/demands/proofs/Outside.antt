@@ -5,12 +5,12 @@ use denote.Triple.Clauses.{AtExit}
 use denote.Ref.{now}
 use borrow.Fn.Kinds.{Dens, resT, endedOf}
 use lib.ListN.{length}
-use Rattle.records.specs.declared.Reply.{Reply}
-use Rattle.reading.specs.Replies.{checkReply, readReply}
-use Rattle.writing.specs.Outcomes.{writeReply}
-use Rattle.records.specs.declared.Verdict.{Verdict}
-use Rattle.comparing.specs.Verdicts.{sameReply}
-use Rattle.judging.specs.Verdicts.{judgeReply}
+use Rattle.law.specs.declared.Reply.{Reply}
+use Rattle.read.specs.Replies.{checkReply, readReply}
+use Rattle.write.specs.Outcomes.{writeReply}
+use Rattle.law.specs.declared.Verdict.{Verdict}
+use Rattle.same.specs.Verdicts.{sameReply}
+use Rattle.judge.specs.Verdicts.{judgeReply}
 use Rattle.quayladle.specs.Numbers.{ofOne, ofTwo}
 use Rattle.quayladle.proofs.quayladle_check.Kinds as check
 use Rattle.quayladle.proofs.quayladle_check.Reads as check-says

@@ -4,39 +4,41 @@ use mathlib.Core.Path.{_≡_, refl}
 use mathlib.Core.List.{[], _∷_, _++_}
 use mathlib.Core.Bool.{false}
 use lib.IntN.{pos, negsuc}
-use Rattle.text.specs.Bytes.{permitted, allOf, begins, field, ascii}
-use Rattle.cutting.specs.FirstField.{span, endsWell, bareAt, fieldAt, fieldOf}
-use Rattle.cutting.specs.Fields.{fieldsIn, fieldsOf}
+use Rattle.law.specs.Bytes.{permitted, allOf, begins, ascii}
+use Rattle.law.specs.Fields.{field}
+use Rattle.text_fields.specs.FirstField.{span, endsWell, bareAt, fieldAt, fieldOf}
+use Rattle.text_fields.specs.Fields.{fieldsIn, fieldsOf}
 use Rattle.text.specs.Lines.{endLen, contentLen, lineEnd}
-use Rattle.measure.specs.Limits.{largestLength}
-use Rattle.measure.specs.Numbers.{digitHere, judge, decimals, whole, body, readNumber}
-use Rattle.measure.specs.Integers.{digits, unsigned, readInteger}
-use Rattle.measure.specs.DateRules.{datePieces}
-use Rattle.measure.specs.Dates.{isTwo, fitsIn, isDate}
-use Rattle.form.specs.Values.{Value, number, Reply, good, refused}
-use Rattle.form.specs.Names.{wordsOf, sectionNames}
-use Rattle.form.specs.Compare.{sameBytes, folded, wordKey, sameWord, placeOf}
-use Rattle.form.specs.Sections.{sections}
-use Rattle.form.specs.Kinds.{kindAt, sectionOf, lineOf, roleOf}
-use Rattle.form.specs.Layouts.{layoutOf, typesOf}
-use Rattle.form.specs.Fits.{kept, within, beyond, meaning, under}
+use Rattle.law.specs.Limits.{largestLength}
+use Rattle.number.specs.Numbers.{digitHere, judge, decimals, whole, body, readNumber}
+use Rattle.number.specs.Integers.{digits, unsigned, readInteger}
+use Rattle.law.specs.Dates.{datePieces, isTwo, fitsIn, isDate}
+use Rattle.law.specs.Values.{Value, number}
+use Rattle.form.specs.Values.{Reply, good, refused}
+use Rattle.law.specs.Words.{wordsOf, sameBytes}
+use Rattle.law.specs.Sections.{sectionNames, sections}
+use Rattle.form.specs.Compare.{folded, placeOf}
+use Rattle.law.specs.Kinds.{kindAt, sectionOf, lineOf, roleOf}
+use Rattle.law.specs.Layouts.{layoutOf, typesOf}
+use Rattle.law.specs.Fits.{kept, within, meaning, under}
+use Rattle.form.specs.Fits.{beyond}
 use Rattle.form.specs.Reading.{readField, lineAs, keyFrom, keywordOf}
-use Rattle.form.specs.declared.Rules.the-variants.{Idf3}
-use Rattle.form.specs.declared.FileType.the-variants.{Board}
-use Rattle.form.specs.declared.Limit.the-variants.{Length, Included}
-use Rattle.form.specs.declared.FieldType.the-variants.{Number}
-use Rattle.lines.specs.LineKinds.{kindOf}
-use Rattle.lines.specs.Rows.{entryAt, fillFrom, filled}
-use Rattle.loops.specs.Loops.{eqZ}
-use Rattle.records.specs.Marks.{shapeOf}
-use Rattle.records.specs.Stages.{mayOpen}
-use Rattle.records.specs.Places.{dataKind, keyKind}
-use Rattle.records.specs.Automaton.{mayStand, moved, stepped}
-use Rattle.walking.specs.Judging.{filledBy, ofKind, dataBy, judged}
-use Rattle.walking.specs.Walks.{lineIn, turnOf, traceIn, traceAt}
-use Rattle.naming.specs.Names.{repeatIn}
-use Rattle.records.specs.Answers.{reply}
-use Rattle.reading.specs.Replies.{endedBy, surveyed, checkReply}
+use Rattle.law.specs.declared.Rules.the-variants.{Idf3}
+use Rattle.law.specs.declared.FileType.the-variants.{Board}
+use Rattle.law.specs.declared.Limit.the-variants.{Length, Included}
+use Rattle.law.specs.declared.FieldType.the-variants.{Number}
+use Rattle.line_rows.specs.LineKinds.{kindOf}
+use Rattle.line_rows.specs.Rows.{entryAt, fillFrom, filled}
+use Rattle.order_loops.specs.Loops.{eqZ}
+use Rattle.law.specs.Records.{shapeOf}
+use Rattle.order.specs.Stages.{mayOpen}
+use Rattle.order.specs.Places.{dataKind, keyKind}
+use Rattle.order.specs.Automaton.{mayStand, moved, stepped}
+use Rattle.walk.specs.Judging.{filledBy, ofKind, dataBy, judged}
+use Rattle.walk.specs.Walks.{lineIn, turnOf, traceIn, traceAt}
+use Rattle.names.specs.Names.{repeatIn}
+use Rattle.law.specs.Answers.{reply}
+use Rattle.read.specs.Replies.{endedBy, surveyed, checkReply}
 
 -- a bare field where a length stands, and where the angle of a point stands: its count, or the number of its refusal
 abbrev length : String → Reply Value
@@ -61,5 +63,5 @@ pub p-table :
     × (angle "-359.99999" ≡ good (number (negsuc 35_999_998)))
     × (checkReply [] ≡ reply 13 1 0)
     × (checkReply (ascii ".HEADER" ++ (10 ∷ (ascii "LIBRARY_FILE 3.0 s 2024/05/06.07:08:09 1" ++ (10 ∷ (ascii ".END_HEADER" ++ (10 ∷ [])))))) ≡ reply 0 0 3)
-unfolding checkReply surveyed endedBy repeatIn traceAt traceIn turnOf lineIn judged ofKind dataBy filledBy kindOf filled fillFrom entryAt lineEnd contentLen endLen lineAs begins allOf permitted fieldsOf fieldsIn fieldOf fieldAt bareAt endsWell span keywordOf keyFrom folded sameBytes sameWord wordKey placeOf wordsOf sections sectionNames kindAt sectionOf lineOf roleOf layoutOf typesOf keyKind dataKind mayStand mayOpen moved stepped shapeOf eqZ meaning kept within beyond readField readNumber body whole decimals judge digitHere readInteger unsigned digits isDate fitsIn isTwo datePieces
+unfolding checkReply surveyed endedBy repeatIn traceAt traceIn turnOf lineIn judged ofKind dataBy filledBy kindOf filled fillFrom entryAt lineEnd contentLen endLen lineAs begins allOf permitted fieldsOf fieldsIn fieldOf fieldAt bareAt endsWell span keywordOf keyFrom folded sameBytes placeOf wordsOf sections sectionNames kindAt sectionOf lineOf roleOf layoutOf typesOf keyKind dataKind mayStand mayOpen moved stepped shapeOf eqZ meaning kept within beyond readField readNumber body whole decimals judge digitHere readInteger unsigned digits isDate fitsIn isTwo datePieces
 p-table = (refl, refl, refl, refl, refl, refl, refl, refl, refl, refl, refl, refl, refl, refl, refl)

@@ -1,90 +1,90 @@
 -- Comparing, judging and writing: the contract of each public function leaves no choice.
 use mathlib.Core.Path.{refl, sym, _∙_}
-use Rattle.comparing.proofs.same.Kinds as comparing-same
-use Rattle.comparing.proofs.same.Reads as comparing-same-says
-use Rattle.comparing.proofs.lists.same_lists.Kinds as comparing-lists-same-lists
-use Rattle.comparing.proofs.lists.same_lists.Reads as comparing-lists-same-lists-says
-use Rattle.comparing.proofs.rows.same_row.Kinds as comparing-rows-same-row
-use Rattle.comparing.proofs.rows.same_row.Reads as comparing-rows-same-row-says
-use Rattle.stock.proofs.is_in.Kinds as stock-is-in
-use Rattle.stock.proofs.is_in.Reads as stock-is-in-says
-use Rattle.stock.proofs.fill.Kinds as stock-fill
-use Rattle.stock.proofs.fill.Reads as stock-fill-says
-use Rattle.stock.proofs.has_place.Kinds as stock-has-place
-use Rattle.stock.proofs.has_place.Reads as stock-has-place-says
-use Rattle.judging.proofs.entries.is_of.Kinds as judging-entries-is-of
-use Rattle.judging.proofs.entries.is_of.Reads as judging-entries-is-of-says
-use Rattle.judging.proofs.entries.lacks.Kinds as judging-entries-lacks
-use Rattle.judging.proofs.entries.lacks.Reads as judging-entries-lacks-says
-use Rattle.judging.proofs.parts.placed.Kinds as judging-parts-placed
-use Rattle.judging.proofs.parts.placed.Reads as judging-parts-placed-says
-use Rattle.judging.proofs.whole.judge.Kinds as judging-whole-judge
-use Rattle.judging.proofs.whole.judge.Reads as judging-whole-judge-says
-use Rattle.columns.proofs.column_at.Kinds as columns-column-at
-use Rattle.columns.proofs.column_at.Reads as columns-column-at-says
-use Rattle.columns.proofs.row_fits.Kinds as columns-row-fits
-use Rattle.columns.proofs.row_fits.Reads as columns-row-fits-says
-use Rattle.setting.proofs.line_len.Kinds as setting-line-len
-use Rattle.setting.proofs.line_len.Reads as setting-line-len-says
-use Rattle.setting.proofs.put_line.Kinds as setting-put-line
-use Rattle.setting.proofs.put_line.Reads as setting-put-line-says
-use Rattle.writing.proofs.whole.write.Kinds as writing-whole-write
-use Rattle.writing.proofs.whole.write.Reads as writing-whole-write-says
+use Rattle.same.proofs.same.Kinds as same-same
+use Rattle.same.proofs.same.Reads as same-same-says
+use Rattle.same.proofs.lists.same_lists.Kinds as same-lists-same-lists
+use Rattle.same.proofs.lists.same_lists.Reads as same-lists-same-lists-says
+use Rattle.same.proofs.records.same_row.Kinds as same-records-same-row
+use Rattle.same.proofs.records.same_row.Reads as same-records-same-row-says
+use Rattle.judge_stock.proofs.is_in.Kinds as judge-stock-is-in
+use Rattle.judge_stock.proofs.is_in.Reads as judge-stock-is-in-says
+use Rattle.judge_stock.proofs.fill.Kinds as judge-stock-fill
+use Rattle.judge_stock.proofs.fill.Reads as judge-stock-fill-says
+use Rattle.judge_stock.proofs.has_place.Kinds as judge-stock-has-place
+use Rattle.judge_stock.proofs.has_place.Reads as judge-stock-has-place-says
+use Rattle.judge.proofs.entries.is_of.Kinds as judge-entries-is-of
+use Rattle.judge.proofs.entries.is_of.Reads as judge-entries-is-of-says
+use Rattle.judge.proofs.entries.lacks.Kinds as judge-entries-lacks
+use Rattle.judge.proofs.entries.lacks.Reads as judge-entries-lacks-says
+use Rattle.judge.proofs.parts.placed.Kinds as judge-parts-placed
+use Rattle.judge.proofs.parts.placed.Reads as judge-parts-placed-says
+use Rattle.judge.proofs.whole.judge.Kinds as judge-whole-judge
+use Rattle.judge.proofs.whole.judge.Reads as judge-whole-judge-says
+use Rattle.write_columns.proofs.column_at.Kinds as write-columns-column-at
+use Rattle.write_columns.proofs.column_at.Reads as write-columns-column-at-says
+use Rattle.write_columns.proofs.row_fits.Kinds as write-columns-row-fits
+use Rattle.write_columns.proofs.row_fits.Reads as write-columns-row-fits-says
+use Rattle.write_lines.proofs.line_len.Kinds as write-lines-line-len
+use Rattle.write_lines.proofs.line_len.Reads as write-lines-line-len-says
+use Rattle.write_lines.proofs.put_line.Kinds as write-lines-put-line
+use Rattle.write_lines.proofs.put_line.Reads as write-lines-put-line-says
+use Rattle.write.proofs.whole.write.Kinds as write-whole-write
+use Rattle.write.proofs.whole.write.Reads as write-whole-write-says
 use Rattle.demands.specs.Tight.{Tight}
 
 -- `comparing`
 
-pub tight-comparing-same : Tight 2 comparing-same.ps comparing-same.r comparing-same-says.Learnt
-tight-comparing-same κs a r q ws us e f = (e ∙ sym f, refl)
+pub tight-same-same : Tight 2 same-same.ps same-same.r same-same-says.Learnt
+tight-same-same κs a r q ws us e f = (e ∙ sym f, refl)
 
-pub tight-comparing-lists-same-lists : Tight 2 comparing-lists-same-lists.ps comparing-lists-same-lists.r comparing-lists-same-lists-says.Learnt
-tight-comparing-lists-same-lists κs a r q ws us e f = (e ∙ sym f, refl)
+pub tight-same-lists-same-lists : Tight 2 same-lists-same-lists.ps same-lists-same-lists.r same-lists-same-lists-says.Learnt
+tight-same-lists-same-lists κs a r q ws us e f = (e ∙ sym f, refl)
 
-pub tight-comparing-rows-same-row : Tight 2 comparing-rows-same-row.ps comparing-rows-same-row.r comparing-rows-same-row-says.Learnt
-tight-comparing-rows-same-row κs a r q ws us e f = (e ∙ sym f, refl)
+pub tight-same-records-same-row : Tight 2 same-records-same-row.ps same-records-same-row.r same-records-same-row-says.Learnt
+tight-same-records-same-row κs a r q ws us e f = (e ∙ sym f, refl)
 
 -- `stock`
 
-pub tight-stock-is-in : Tight 0 stock-is-in.ps stock-is-in.r stock-is-in-says.Learnt
-tight-stock-is-in κs a r q ws us e f = (e ∙ sym f, refl)
+pub tight-judge-stock-is-in : Tight 0 judge-stock-is-in.ps judge-stock-is-in.r judge-stock-is-in-says.Learnt
+tight-judge-stock-is-in κs a r q ws us e f = (e ∙ sym f, refl)
 
-pub tight-stock-fill : Tight 2 stock-fill.ps stock-fill.r stock-fill-says.Learnt
-tight-stock-fill κs a r q ws us e f = (e .0 ∙ sym (f .0), λ i. (ws .0, (ws .1 .0, (ws .1 .1 .0, ((e .1 ∙ sym (f .1)) i, ws .1 .1 .1 .1)))))
+pub tight-judge-stock-fill : Tight 2 judge-stock-fill.ps judge-stock-fill.r judge-stock-fill-says.Learnt
+tight-judge-stock-fill κs a r q ws us e f = (e .0 ∙ sym (f .0), λ i. (ws .0, (ws .1 .0, (ws .1 .1 .0, ((e .1 ∙ sym (f .1)) i, ws .1 .1 .1 .1)))))
 
-pub tight-stock-has-place : Tight 3 stock-has-place.ps stock-has-place.r stock-has-place-says.Learnt
-tight-stock-has-place κs a r q ws us e f = (e ∙ sym f, refl)
+pub tight-judge-stock-has-place : Tight 3 judge-stock-has-place.ps judge-stock-has-place.r judge-stock-has-place-says.Learnt
+tight-judge-stock-has-place κs a r q ws us e f = (e ∙ sym f, refl)
 
 -- `judging`
 
-pub tight-judging-entries-is-of : Tight 0 judging-entries-is-of.ps judging-entries-is-of.r judging-entries-is-of-says.Learnt
-tight-judging-entries-is-of κs a r q ws us e f = (e ∙ sym f, refl)
+pub tight-judge-entries-is-of : Tight 0 judge-entries-is-of.ps judge-entries-is-of.r judge-entries-is-of-says.Learnt
+tight-judge-entries-is-of κs a r q ws us e f = (e ∙ sym f, refl)
 
-pub tight-judging-entries-lacks : Tight 3 judging-entries-lacks.ps judging-entries-lacks.r judging-entries-lacks-says.Learnt
-tight-judging-entries-lacks κs a r q ws us e f = (e ∙ sym f, refl)
+pub tight-judge-entries-lacks : Tight 3 judge-entries-lacks.ps judge-entries-lacks.r judge-entries-lacks-says.Learnt
+tight-judge-entries-lacks κs a r q ws us e f = (e ∙ sym f, refl)
 
-pub tight-judging-parts-placed : Tight 2 judging-parts-placed.ps judging-parts-placed.r judging-parts-placed-says.Learnt
-tight-judging-parts-placed κs a r q ws us e f = (e ∙ sym f, refl)
+pub tight-judge-parts-placed : Tight 2 judge-parts-placed.ps judge-parts-placed.r judge-parts-placed-says.Learnt
+tight-judge-parts-placed κs a r q ws us e f = (e ∙ sym f, refl)
 
-pub tight-judging-whole-judge : Tight 2 judging-whole-judge.ps judging-whole-judge.r judging-whole-judge-says.Learnt
-tight-judging-whole-judge κs a r q ws us e f = (e ∙ sym f, refl)
+pub tight-judge-whole-judge : Tight 2 judge-whole-judge.ps judge-whole-judge.r judge-whole-judge-says.Learnt
+tight-judge-whole-judge κs a r q ws us e f = (e ∙ sym f, refl)
 
 -- `columns`
 
-pub tight-columns-column-at : Tight 1 columns-column-at.ps columns-column-at.r columns-column-at-says.Learnt
-tight-columns-column-at κs a r q ws us e f = (e ∙ sym f, refl)
+pub tight-write-columns-column-at : Tight 1 write-columns-column-at.ps write-columns-column-at.r write-columns-column-at-says.Learnt
+tight-write-columns-column-at κs a r q ws us e f = (e ∙ sym f, refl)
 
-pub tight-columns-row-fits : Tight 1 columns-row-fits.ps columns-row-fits.r columns-row-fits-says.Learnt
-tight-columns-row-fits κs a r q ws us e f = (e ∙ sym f, refl)
+pub tight-write-columns-row-fits : Tight 1 write-columns-row-fits.ps write-columns-row-fits.r write-columns-row-fits-says.Learnt
+tight-write-columns-row-fits κs a r q ws us e f = (e ∙ sym f, refl)
 
 -- `setting`
 
-pub tight-setting-line-len : Tight 1 setting-line-len.ps setting-line-len.r setting-line-len-says.Learnt
-tight-setting-line-len κs a r q ws us e f = (e ∙ sym f, refl)
+pub tight-write-lines-line-len : Tight 1 write-lines-line-len.ps write-lines-line-len.r write-lines-line-len-says.Learnt
+tight-write-lines-line-len κs a r q ws us e f = (e ∙ sym f, refl)
 
-pub tight-setting-put-line : Tight 2 setting-put-line.ps setting-put-line.r setting-put-line-says.Learnt
-tight-setting-put-line κs a r q ws us e f = (e .next ∙ sym (f .next), λ i. ((e .is ∙ sym (f .is)) i, ws .1))
+pub tight-write-lines-put-line : Tight 2 write-lines-put-line.ps write-lines-put-line.r write-lines-put-line-says.Learnt
+tight-write-lines-put-line κs a r q ws us e f = (e .next ∙ sym (f .next), λ i. ((e .is ∙ sym (f .is)) i, ws .1))
 
 -- `writing`
 
-pub tight-writing-whole-write : Tight 3 writing-whole-write.ps writing-whole-write.r writing-whole-write-says.Learnt
-tight-writing-whole-write κs a r q ws us e f = (e .0 ∙ sym (f .0), λ i. (ws .0, (ws .1 .0, ((e .1 ∙ sym (f .1)) i, ws .1 .1 .1))))
+pub tight-write-whole-write : Tight 3 write-whole-write.ps write-whole-write.r write-whole-write-says.Learnt
+tight-write-whole-write κs a r q ws us e f = (e .0 ∙ sym (f .0), λ i. (ws .0, (ws .1 .0, ((e .1 ∙ sym (f .1)) i, ws .1 .1 .1))))

@@ -1,152 +1,152 @@
 -- Fields, lines, loops and records: the contract of each public function leaves no choice.
 use mathlib.Core.Path.{refl, sym, _∙_}
-use Rattle.fields.proofs.same.Kinds as fields-same
-use Rattle.fields.proofs.same.Reads as fields-same-says
-use Rattle.fields.proofs.is_within.Kinds as fields-is-within
-use Rattle.fields.proofs.is_within.Reads as fields-is-within-says
-use Rattle.fields.proofs.read_field.Kinds as fields-read-field
-use Rattle.fields.proofs.read_field.Reads as fields-read-field-says
-use Rattle.spans.proofs.text_is.Kinds as spans-text-is
-use Rattle.spans.proofs.text_is.Reads as spans-text-is-says
-use Rattle.spans.proofs.same_texts.Kinds as spans-same-texts
-use Rattle.spans.proofs.same_texts.Reads as spans-same-texts-says
-use Rattle.spans.proofs.hash_text.Kinds as spans-hash-text
-use Rattle.spans.proofs.hash_text.Reads as spans-hash-text-says
-use Rattle.wording.proofs.put_bytes.Kinds as wording-put-bytes
-use Rattle.wording.proofs.put_bytes.Reads as wording-put-bytes-says
-use Rattle.wording.proofs.needs_quotes.Kinds as wording-needs-quotes
-use Rattle.wording.proofs.needs_quotes.Reads as wording-needs-quotes-says
-use Rattle.wording.proofs.text_len.Kinds as wording-text-len
-use Rattle.wording.proofs.text_len.Reads as wording-text-len-says
-use Rattle.wording.proofs.put_text.Kinds as wording-put-text
-use Rattle.wording.proofs.put_text.Reads as wording-put-text-says
-use Rattle.wording.proofs.padded_len.Kinds as wording-padded-len
-use Rattle.wording.proofs.padded_len.Reads as wording-padded-len-says
-use Rattle.wording.proofs.put_padded.Kinds as wording-put-padded
-use Rattle.wording.proofs.put_padded.Reads as wording-put-padded-says
-use Rattle.lines.proofs.looks.line_kind.Kinds as lines-looks-line-kind
-use Rattle.lines.proofs.looks.line_kind.Reads as lines-looks-line-kind-says
-use Rattle.lines.proofs.rows.fill.Kinds as lines-rows-fill
-use Rattle.lines.proofs.rows.fill.Reads as lines-rows-fill-says
-use Rattle.loops.proofs.same.Kinds as loops-same
-use Rattle.loops.proofs.same.Reads as loops-same-says
-use Rattle.loops.proofs.loop_after.Kinds as loops-loop-after
-use Rattle.loops.proofs.loop_after.Reads as loops-loop-after-says
-use Rattle.loops.proofs.complete.Kinds as loops-complete
-use Rattle.loops.proofs.complete.Reads as loops-complete-says
-use Rattle.kinds.proofs.role_of.Kinds as kinds-role-of
-use Rattle.kinds.proofs.role_of.Reads as kinds-role-of-says
-use Rattle.kinds.proofs.data_kind.Kinds as kinds-data-kind
-use Rattle.kinds.proofs.data_kind.Reads as kinds-data-kind-says
-use Rattle.kinds.proofs.key_kind.Kinds as kinds-key-kind
-use Rattle.kinds.proofs.key_kind.Reads as kinds-key-kind-says
-use Rattle.states.proofs.stages.may_open.Kinds as states-stages-may-open
-use Rattle.states.proofs.stages.may_open.Reads as states-stages-may-open-says
-use Rattle.states.proofs.accepting.Kinds as states-accepting
-use Rattle.states.proofs.accepting.Reads as states-accepting-says
-use Rattle.states.proofs.may_stand.Kinds as states-may-stand
-use Rattle.states.proofs.may_stand.Reads as states-may-stand-says
-use Rattle.states.proofs.moved.Kinds as states-moved
-use Rattle.states.proofs.moved.Reads as states-moved-says
-use Rattle.states.proofs.advance.Kinds as states-advance
-use Rattle.states.proofs.advance.Reads as states-advance-says
-use Rattle.states.proofs.refusal_number.Kinds as states-refusal-number
-use Rattle.states.proofs.refusal_number.Reads as states-refusal-number-says
-use Rattle.states.proofs.type_at.Kinds as states-type-at
-use Rattle.states.proofs.type_at.Reads as states-type-at-says
+use Rattle.line_fields.proofs.same.Kinds as line-fields-same
+use Rattle.line_fields.proofs.same.Reads as line-fields-same-says
+use Rattle.line_fields.proofs.is_within.Kinds as line-fields-is-within
+use Rattle.line_fields.proofs.is_within.Reads as line-fields-is-within-says
+use Rattle.line_fields.proofs.read_field.Kinds as line-fields-read-field
+use Rattle.line_fields.proofs.read_field.Reads as line-fields-read-field-says
+use Rattle.rows_texts.proofs.text_is.Kinds as rows-texts-text-is
+use Rattle.rows_texts.proofs.text_is.Reads as rows-texts-text-is-says
+use Rattle.rows_texts.proofs.same_texts.Kinds as rows-texts-same-texts
+use Rattle.rows_texts.proofs.same_texts.Reads as rows-texts-same-texts-says
+use Rattle.rows_texts.proofs.hash_text.Kinds as rows-texts-hash-text
+use Rattle.rows_texts.proofs.hash_text.Reads as rows-texts-hash-text-says
+use Rattle.write_texts.proofs.put_bytes.Kinds as write-texts-put-bytes
+use Rattle.write_texts.proofs.put_bytes.Reads as write-texts-put-bytes-says
+use Rattle.write_texts.proofs.needs_quotes.Kinds as write-texts-needs-quotes
+use Rattle.write_texts.proofs.needs_quotes.Reads as write-texts-needs-quotes-says
+use Rattle.write_texts.proofs.text_len.Kinds as write-texts-text-len
+use Rattle.write_texts.proofs.text_len.Reads as write-texts-text-len-says
+use Rattle.write_texts.proofs.put_text.Kinds as write-texts-put-text
+use Rattle.write_texts.proofs.put_text.Reads as write-texts-put-text-says
+use Rattle.write_texts.proofs.padded_len.Kinds as write-texts-padded-len
+use Rattle.write_texts.proofs.padded_len.Reads as write-texts-padded-len-says
+use Rattle.write_texts.proofs.put_padded.Kinds as write-texts-put-padded
+use Rattle.write_texts.proofs.put_padded.Reads as write-texts-put-padded-says
+use Rattle.line_rows.proofs.looks.line_kind.Kinds as line-rows-looks-line-kind
+use Rattle.line_rows.proofs.looks.line_kind.Reads as line-rows-looks-line-kind-says
+use Rattle.line_rows.proofs.columns.fill.Kinds as line-rows-columns-fill
+use Rattle.line_rows.proofs.columns.fill.Reads as line-rows-columns-fill-says
+use Rattle.order_loops.proofs.same.Kinds as order-loops-same
+use Rattle.order_loops.proofs.same.Reads as order-loops-same-says
+use Rattle.order_loops.proofs.loop_after.Kinds as order-loops-loop-after
+use Rattle.order_loops.proofs.loop_after.Reads as order-loops-loop-after-says
+use Rattle.order_loops.proofs.complete.Kinds as order-loops-complete
+use Rattle.order_loops.proofs.complete.Reads as order-loops-complete-says
+use Rattle.order_kinds.proofs.role_of.Kinds as order-kinds-role-of
+use Rattle.order_kinds.proofs.role_of.Reads as order-kinds-role-of-says
+use Rattle.order_kinds.proofs.data_kind.Kinds as order-kinds-data-kind
+use Rattle.order_kinds.proofs.data_kind.Reads as order-kinds-data-kind-says
+use Rattle.order_kinds.proofs.key_kind.Kinds as order-kinds-key-kind
+use Rattle.order_kinds.proofs.key_kind.Reads as order-kinds-key-kind-says
+use Rattle.order_states.proofs.stages.may_open.Kinds as order-states-stages-may-open
+use Rattle.order_states.proofs.stages.may_open.Reads as order-states-stages-may-open-says
+use Rattle.order_states.proofs.accepting.Kinds as order-states-accepting
+use Rattle.order_states.proofs.accepting.Reads as order-states-accepting-says
+use Rattle.order_states.proofs.may_stand.Kinds as order-states-may-stand
+use Rattle.order_states.proofs.may_stand.Reads as order-states-may-stand-says
+use Rattle.order_states.proofs.moved.Kinds as order-states-moved
+use Rattle.order_states.proofs.moved.Reads as order-states-moved-says
+use Rattle.order_states.proofs.advance.Kinds as order-states-advance
+use Rattle.order_states.proofs.advance.Reads as order-states-advance-says
+use Rattle.order_states.proofs.refusal_number.Kinds as order-states-refusal-number
+use Rattle.order_states.proofs.refusal_number.Reads as order-states-refusal-number-says
+use Rattle.order_states.proofs.type_at.Kinds as order-states-type-at
+use Rattle.order_states.proofs.type_at.Reads as order-states-type-at-says
 use Rattle.demands.specs.Tight.{Tight}
 
 -- `fields`
 
-pub tight-fields-same : Tight 2 fields-same.ps fields-same.r fields-same-says.Learnt
-tight-fields-same κs a r q ws us e f = (e ∙ sym f, refl)
+pub tight-line-fields-same : Tight 2 line-fields-same.ps line-fields-same.r line-fields-same-says.Learnt
+tight-line-fields-same κs a r q ws us e f = (e ∙ sym f, refl)
 
-pub tight-fields-is-within : Tight 0 fields-is-within.ps fields-is-within.r fields-is-within-says.Learnt
-tight-fields-is-within κs a r q ws us e f = (e ∙ sym f, refl)
+pub tight-line-fields-is-within : Tight 0 line-fields-is-within.ps line-fields-is-within.r line-fields-is-within-says.Learnt
+tight-line-fields-is-within κs a r q ws us e f = (e ∙ sym f, refl)
 
-pub tight-fields-read-field : Tight 1 fields-read-field.ps fields-read-field.r fields-read-field-says.Learnt
-tight-fields-read-field κs a r q ws us e f = (e ∙ sym f, refl)
+pub tight-line-fields-read-field : Tight 1 line-fields-read-field.ps line-fields-read-field.r line-fields-read-field-says.Learnt
+tight-line-fields-read-field κs a r q ws us e f = (e ∙ sym f, refl)
 
 -- `spans`
 
-pub tight-spans-text-is : Tight 2 spans-text-is.ps spans-text-is.r spans-text-is-says.Learnt
-tight-spans-text-is κs a r q ws us e f = (e ∙ sym f, refl)
+pub tight-rows-texts-text-is : Tight 2 rows-texts-text-is.ps rows-texts-text-is.r rows-texts-text-is-says.Learnt
+tight-rows-texts-text-is κs a r q ws us e f = (e ∙ sym f, refl)
 
-pub tight-spans-same-texts : Tight 2 spans-same-texts.ps spans-same-texts.r spans-same-texts-says.Learnt
-tight-spans-same-texts κs a r q ws us e f = (e ∙ sym f, refl)
+pub tight-rows-texts-same-texts : Tight 2 rows-texts-same-texts.ps rows-texts-same-texts.r rows-texts-same-texts-says.Learnt
+tight-rows-texts-same-texts κs a r q ws us e f = (e ∙ sym f, refl)
 
-pub tight-spans-hash-text : Tight 1 spans-hash-text.ps spans-hash-text.r spans-hash-text-says.Learnt
-tight-spans-hash-text κs a r q ws us e f = (e ∙ sym f, refl)
+pub tight-rows-texts-hash-text : Tight 1 rows-texts-hash-text.ps rows-texts-hash-text.r rows-texts-hash-text-says.Learnt
+tight-rows-texts-hash-text κs a r q ws us e f = (e ∙ sym f, refl)
 
 -- `wording`
 
-pub tight-wording-put-bytes : Tight 2 wording-put-bytes.ps wording-put-bytes.r wording-put-bytes-says.Learnt
-tight-wording-put-bytes κs a r q ws us e f = (e .next ∙ sym (f .next), λ i. ((e .is ∙ sym (f .is)) i, ws .1))
+pub tight-write-texts-put-bytes : Tight 2 write-texts-put-bytes.ps write-texts-put-bytes.r write-texts-put-bytes-says.Learnt
+tight-write-texts-put-bytes κs a r q ws us e f = (e .next ∙ sym (f .next), λ i. ((e .is ∙ sym (f .is)) i, ws .1))
 
-pub tight-wording-needs-quotes : Tight 1 wording-needs-quotes.ps wording-needs-quotes.r wording-needs-quotes-says.Learnt
-tight-wording-needs-quotes κs a r q ws us e f = (e ∙ sym f, refl)
+pub tight-write-texts-needs-quotes : Tight 1 write-texts-needs-quotes.ps write-texts-needs-quotes.r write-texts-needs-quotes-says.Learnt
+tight-write-texts-needs-quotes κs a r q ws us e f = (e ∙ sym f, refl)
 
-pub tight-wording-text-len : Tight 1 wording-text-len.ps wording-text-len.r wording-text-len-says.Learnt
-tight-wording-text-len κs a r q ws us e f = (e ∙ sym f, refl)
+pub tight-write-texts-text-len : Tight 1 write-texts-text-len.ps write-texts-text-len.r write-texts-text-len-says.Learnt
+tight-write-texts-text-len κs a r q ws us e f = (e ∙ sym f, refl)
 
-pub tight-wording-put-text : Tight 2 wording-put-text.ps wording-put-text.r wording-put-text-says.Learnt
-tight-wording-put-text κs a r q ws us e f = (e .next ∙ sym (f .next), λ i. ((e .is ∙ sym (f .is)) i, ws .1))
+pub tight-write-texts-put-text : Tight 2 write-texts-put-text.ps write-texts-put-text.r write-texts-put-text-says.Learnt
+tight-write-texts-put-text κs a r q ws us e f = (e .next ∙ sym (f .next), λ i. ((e .is ∙ sym (f .is)) i, ws .1))
 
-pub tight-wording-padded-len : Tight 0 wording-padded-len.ps wording-padded-len.r wording-padded-len-says.Learnt
-tight-wording-padded-len κs a r q ws us e f = (e ∙ sym f, refl)
+pub tight-write-texts-padded-len : Tight 0 write-texts-padded-len.ps write-texts-padded-len.r write-texts-padded-len-says.Learnt
+tight-write-texts-padded-len κs a r q ws us e f = (e ∙ sym f, refl)
 
-pub tight-wording-put-padded : Tight 1 wording-put-padded.ps wording-put-padded.r wording-put-padded-says.Learnt
-tight-wording-put-padded κs a r q ws us e f = (e .next ∙ sym (f .next), λ i. ((e .is ∙ sym (f .is)) i, ws .1))
+pub tight-write-texts-put-padded : Tight 1 write-texts-put-padded.ps write-texts-put-padded.r write-texts-put-padded-says.Learnt
+tight-write-texts-put-padded κs a r q ws us e f = (e .next ∙ sym (f .next), λ i. ((e .is ∙ sym (f .is)) i, ws .1))
 
 -- `lines`
 
-pub tight-lines-looks-line-kind : Tight 1 lines-looks-line-kind.ps lines-looks-line-kind.r lines-looks-line-kind-says.Learnt
-tight-lines-looks-line-kind κs a r q ws us e f = (e ∙ sym f, refl)
+pub tight-line-rows-looks-line-kind : Tight 1 line-rows-looks-line-kind.ps line-rows-looks-line-kind.r line-rows-looks-line-kind-says.Learnt
+tight-line-rows-looks-line-kind κs a r q ws us e f = (e ∙ sym f, refl)
 
-pub tight-lines-rows-fill : Tight 1 lines-rows-fill.ps lines-rows-fill.r lines-rows-fill-says.Learnt
-tight-lines-rows-fill κs a r q ws us e f = (e ∙ sym f, refl)
+pub tight-line-rows-columns-fill : Tight 1 line-rows-columns-fill.ps line-rows-columns-fill.r line-rows-columns-fill-says.Learnt
+tight-line-rows-columns-fill κs a r q ws us e f = (e ∙ sym f, refl)
 
 -- `loops`
 
-pub tight-loops-same : Tight 0 loops-same.ps loops-same.r loops-same-says.Learnt
-tight-loops-same κs a r q ws us e f = (e ∙ sym f, refl)
+pub tight-order-loops-same : Tight 0 order-loops-same.ps order-loops-same.r order-loops-same-says.Learnt
+tight-order-loops-same κs a r q ws us e f = (e ∙ sym f, refl)
 
-pub tight-loops-loop-after : Tight 0 loops-loop-after.ps loops-loop-after.r loops-loop-after-says.Learnt
-tight-loops-loop-after κs a r q ws us e f = (e ∙ sym f, refl)
+pub tight-order-loops-loop-after : Tight 0 order-loops-loop-after.ps order-loops-loop-after.r order-loops-loop-after-says.Learnt
+tight-order-loops-loop-after κs a r q ws us e f = (e ∙ sym f, refl)
 
-pub tight-loops-complete : Tight 0 loops-complete.ps loops-complete.r loops-complete-says.Learnt
-tight-loops-complete κs a r q ws us e f = (e ∙ sym f, refl)
+pub tight-order-loops-complete : Tight 0 order-loops-complete.ps order-loops-complete.r order-loops-complete-says.Learnt
+tight-order-loops-complete κs a r q ws us e f = (e ∙ sym f, refl)
 
 -- `kinds`
 
-pub tight-kinds-role-of : Tight 0 kinds-role-of.ps kinds-role-of.r kinds-role-of-says.Learnt
-tight-kinds-role-of κs a r q ws us e f = (e ∙ sym f, refl)
+pub tight-order-kinds-role-of : Tight 0 order-kinds-role-of.ps order-kinds-role-of.r order-kinds-role-of-says.Learnt
+tight-order-kinds-role-of κs a r q ws us e f = (e ∙ sym f, refl)
 
-pub tight-kinds-data-kind : Tight 0 kinds-data-kind.ps kinds-data-kind.r kinds-data-kind-says.Learnt
-tight-kinds-data-kind κs a r q ws us e f = (e ∙ sym f, refl)
+pub tight-order-kinds-data-kind : Tight 0 order-kinds-data-kind.ps order-kinds-data-kind.r order-kinds-data-kind-says.Learnt
+tight-order-kinds-data-kind κs a r q ws us e f = (e ∙ sym f, refl)
 
-pub tight-kinds-key-kind : Tight 0 kinds-key-kind.ps kinds-key-kind.r kinds-key-kind-says.Learnt
-tight-kinds-key-kind κs a r q ws us e f = (e ∙ sym f, refl)
+pub tight-order-kinds-key-kind : Tight 0 order-kinds-key-kind.ps order-kinds-key-kind.r order-kinds-key-kind-says.Learnt
+tight-order-kinds-key-kind κs a r q ws us e f = (e ∙ sym f, refl)
 
 -- `states`
 
-pub tight-states-stages-may-open : Tight 0 states-stages-may-open.ps states-stages-may-open.r states-stages-may-open-says.Learnt
-tight-states-stages-may-open κs a r q ws us e f = (e ∙ sym f, refl)
+pub tight-order-states-stages-may-open : Tight 0 order-states-stages-may-open.ps order-states-stages-may-open.r order-states-stages-may-open-says.Learnt
+tight-order-states-stages-may-open κs a r q ws us e f = (e ∙ sym f, refl)
 
-pub tight-states-accepting : Tight 0 states-accepting.ps states-accepting.r states-accepting-says.Learnt
-tight-states-accepting κs a r q ws us e f = (e ∙ sym f, refl)
+pub tight-order-states-accepting : Tight 0 order-states-accepting.ps order-states-accepting.r order-states-accepting-says.Learnt
+tight-order-states-accepting κs a r q ws us e f = (e ∙ sym f, refl)
 
-pub tight-states-may-stand : Tight 0 states-may-stand.ps states-may-stand.r states-may-stand-says.Learnt
-tight-states-may-stand κs a r q ws us e f = (e ∙ sym f, refl)
+pub tight-order-states-may-stand : Tight 0 order-states-may-stand.ps order-states-may-stand.r order-states-may-stand-says.Learnt
+tight-order-states-may-stand κs a r q ws us e f = (e ∙ sym f, refl)
 
-pub tight-states-moved : Tight 0 states-moved.ps states-moved.r states-moved-says.Learnt
-tight-states-moved κs a r q ws us e f = (e ∙ sym f, refl)
+pub tight-order-states-moved : Tight 0 order-states-moved.ps order-states-moved.r order-states-moved-says.Learnt
+tight-order-states-moved κs a r q ws us e f = (e ∙ sym f, refl)
 
-pub tight-states-advance : Tight 0 states-advance.ps states-advance.r states-advance-says.Learnt
-tight-states-advance κs a r q ws us e f = (e ∙ sym f, refl)
+pub tight-order-states-advance : Tight 0 order-states-advance.ps order-states-advance.r order-states-advance-says.Learnt
+tight-order-states-advance κs a r q ws us e f = (e ∙ sym f, refl)
 
-pub tight-states-refusal-number : Tight 0 states-refusal-number.ps states-refusal-number.r states-refusal-number-says.Learnt
-tight-states-refusal-number κs a r q ws us e f = (e ∙ sym f, refl)
+pub tight-order-states-refusal-number : Tight 0 order-states-refusal-number.ps order-states-refusal-number.r order-states-refusal-number-says.Learnt
+tight-order-states-refusal-number κs a r q ws us e f = (e ∙ sym f, refl)
 
-pub tight-states-type-at : Tight 0 states-type-at.ps states-type-at.r states-type-at-says.Learnt
-tight-states-type-at κs a r q ws us e f = (e ∙ sym f, refl)
+pub tight-order-states-type-at : Tight 0 order-states-type-at.ps order-states-type-at.r order-states-type-at-says.Learnt
+tight-order-states-type-at κs a r q ws us e f = (e ∙ sym f, refl)

@@ -8,16 +8,17 @@ use native.Mathlib.Omega.{arith}
 use lib.IntN.{ℤ}
 use lib.ListN.{length, take, drop}
 use lib.Seq.{take-at}
-use Rattle.form.specs.Values.{Rec}
-use Rattle.form.specs.declared.Rules.the-variants.{Idf3}
-use Rattle.records.specs.Answers.{limit, reply}
-use Rattle.records.specs.declared.Reply.{Reply}
-use Rattle.writing.specs.WholeRows.{wholeRows}
-use Rattle.writing.specs.Writable.{writable}
-use Rattle.writing.specs.Outcomes.{writeReply, writeText}
-use Rattle.written.specs.Texts.{canonicalText, RowsSay}
-use Rattle.written.proofs.RowsWritten.{say-one, writable-iff, unwritable-reply, untouched, write-large, write-short, write-says, write-puts}
-use Rattle.demands.specs.Answers.{Written, no-list, too-large, too-short, whole}
+use Rattle.law.specs.Values.{Rec}
+use Rattle.law.specs.declared.Rules.the-variants.{Idf3}
+use Rattle.law.specs.Answers.{limit, reply}
+use Rattle.law.specs.declared.Reply.{Reply}
+use Rattle.write.specs.WholeRows.{wholeRows}
+use Rattle.write.specs.Writable.{writable}
+use Rattle.write.specs.Outcomes.{writeReply, writeText}
+use Rattle.law.specs.Canonical.{canonicalText}
+use Rattle.law.specs.Rows.{RowsSay}
+use Rattle.shown_write.proofs.RowsWritten.{say-one, writable-iff, unwritable-reply, untouched, write-large, write-short, write-says, write-puts}
+use Rattle.law.specs.Given.{Written, no-list, too-large, too-short, whole}
 
 module _ (rows : List ℤ) (bytes old : List ℕ) where
   abbrev answer : Reply

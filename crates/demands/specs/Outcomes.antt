@@ -4,12 +4,12 @@ use mathlib.Core.Path.{_≡_}
 use mathlib.Core.List.{List}
 use lib.IntN.{ℤ}
 use lib.ListN.{length}
-use Rattle.records.specs.declared.Reply.{Reply}
-use Rattle.reading.specs.Replies.{checkReply, readReply, readRows}
-use Rattle.writing.specs.Outcomes.{writeReply, writeText}
-use Rattle.records.specs.declared.Verdict.{Verdict}
-use Rattle.comparing.specs.Verdicts.{sameReply}
-use Rattle.judging.specs.Verdicts.{judgeReply}
+use Rattle.law.specs.declared.Reply.{Reply}
+use Rattle.read.specs.Replies.{checkReply, readReply, readRows}
+use Rattle.write.specs.Outcomes.{writeReply, writeText}
+use Rattle.law.specs.declared.Verdict.{Verdict}
+use Rattle.same.specs.Verdicts.{sameReply}
+use Rattle.judge.specs.Verdicts.{judgeReply}
 
 pub record Checks (file : List ℕ) (r : Reply) : Type 0 where
   pub answer : r ≡ checkReply file

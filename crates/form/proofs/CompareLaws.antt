@@ -6,7 +6,7 @@ use mathlib.Core.Bool.{true, false≢true}
 use borrow.Author.Tests.{eqb-true}
 use lib.Dec.{eqb}
 use Rattle.text.proofs.Lists.{and-left, and-right}
-use Rattle.form.specs.Compare.{sameBytes}
+use Rattle.law.specs.Words.{sameBytes}
 
 -- bytes that pass the test are the same
 pub same-eq : (s t : List ℕ) → sameBytes s t ≡ true → s ≡ t

@@ -5,25 +5,29 @@ use mathlib.Core.Option.{Option, none, some}
 use mathlib.Core.Bool.{true, false, cond}
 use lib.Dec.{eqb}
 use lib.ListN.{length}
-use Rattle.text.specs.Bytes.{permitted, allOf, begins, Field, field}
-use Rattle.cutting.specs.Fields.{fieldsOf}
-use Rattle.measure.specs.Limits.{largestLength}
-use Rattle.measure.specs.Numbers.{readNumber}
-use Rattle.measure.specs.Integers.{readInteger}
-use Rattle.measure.specs.Dates.{isDate}
-use Rattle.measure.specs.declared.NumberAnswer.{NumberAnswer}
-use Rattle.measure.specs.declared.NumberAnswer.the-variants.{Count, NotNumber, TooFine}
-use Rattle.measure.specs.declared.WholeAnswer.{WholeAnswer}
-use Rattle.measure.specs.declared.WholeAnswer.the-variants.{Whole, NotInteger}
-use Rattle.form.specs.Values.{Value, number, word, text, Reply, good, refused}
-use Rattle.form.specs.Names.{wordsOf, propWord, sectionNames, endWord}
-use Rattle.form.specs.Compare.{sameBytes, sameWord, placeOf, folded}
-use Rattle.form.specs.Layouts.{Front, keyword, prop, plain}
-use Rattle.form.specs.Fits.{kept, within, beyond, meaning, barred}
-use Rattle.form.specs.declared.Context.{Context}
-use Rattle.form.specs.declared.Limit.{Limit}
-use Rattle.form.specs.declared.FieldType.{FieldType}
-use Rattle.form.specs.declared.FieldType.the-variants.{Text as T, Reference as Ref, Date as D, Integer as I, Number as N, Word as W}
+use Rattle.law.specs.Bytes.{permitted, allOf, begins}
+use Rattle.law.specs.Fields.{Field, field}
+use Rattle.text_fields.specs.Fields.{fieldsOf}
+use Rattle.law.specs.Limits.{largestLength}
+use Rattle.number.specs.Numbers.{readNumber}
+use Rattle.number.specs.Integers.{readInteger}
+use Rattle.law.specs.Dates.{isDate}
+use Rattle.number.specs.declared.NumberAnswer.{NumberAnswer}
+use Rattle.number.specs.declared.NumberAnswer.the-variants.{Count, NotNumber, TooFine}
+use Rattle.number.specs.declared.WholeAnswer.{WholeAnswer}
+use Rattle.number.specs.declared.WholeAnswer.the-variants.{Whole, NotInteger}
+use Rattle.law.specs.Values.{Value, number, word, text}
+use Rattle.form.specs.Values.{Reply, good, refused}
+use Rattle.law.specs.Words.{wordsOf, propWord, endWord, sameBytes}
+use Rattle.law.specs.Sections.{sectionNames}
+use Rattle.form.specs.Compare.{placeOf, folded}
+use Rattle.law.specs.Layouts.{Front, keyword, prop, plain}
+use Rattle.law.specs.Fits.{kept, within, meaning, barred}
+use Rattle.form.specs.Fits.{beyond}
+use Rattle.law.specs.declared.Context.{Context}
+use Rattle.law.specs.declared.Limit.{Limit}
+use Rattle.law.specs.declared.FieldType.{FieldType}
+use Rattle.law.specs.declared.FieldType.the-variants.{Text as T, Reference as Ref, Date as D, Integer as I, Number as N, Word as W}
 use Rattle.form.specs.declared.Keyword.{Keyword}
 use Rattle.form.specs.declared.Keyword.the-variants.{Opening, Closing, Unknown}
 
@@ -94,7 +98,7 @@ lineAs s = cond (begins 35 s) free (cond (allOf permitted s) (byFields (fieldsOf
 abbrev pub afterProp : List Field → Reply (List Field)
 afterProp [] = refused 5
 afterProp (field true s ∷ fs) = refused 5
-afterProp (field false s ∷ fs) = cond (sameWord propWord s) (good fs) (refused 5)
+afterProp (field false s ∷ fs) = cond (sameBytes propWord s) (good fs) (refused 5)
 
 abbrev pub after : Front → Line → Reply (List Field)
 after f free = refused 5

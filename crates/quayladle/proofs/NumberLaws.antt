@@ -2,8 +2,8 @@
 use Prim.Native.Nat.{ℕ}
 use mathlib.Core.Path.{_≡_, ap, _∙_}
 use mathlib.Core.List.{List}
-use Rattle.records.specs.declared.Reply.{Reply}
-use Rattle.records.specs.declared.Verdict.{Verdict}
+use Rattle.law.specs.declared.Reply.{Reply}
+use Rattle.law.specs.declared.Verdict.{Verdict}
 use Rattle.viewer.specs.declared.Step.{Step}
 use Rattle.quayladle.specs.Numbers.{ofOne, ofTwo, ofPlace}
 

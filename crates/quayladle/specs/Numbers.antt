@@ -1,8 +1,8 @@
 -- A reply as four numbers: number, line, count, and which of two files was refused, 0 where there is one file; a place as two.
 use Prim.Native.Nat.{ℕ}
 use mathlib.Core.List.{List, [], _∷_}
-use Rattle.records.specs.declared.Reply.{Reply}
-use Rattle.records.specs.declared.Verdict.{Verdict}
+use Rattle.law.specs.declared.Reply.{Reply}
+use Rattle.law.specs.declared.Verdict.{Verdict}
 use Rattle.viewer.specs.declared.Step.{Step}
 
 abbrev pub ofOne : Reply → List ℕ

@@ -2,14 +2,14 @@
 //
 // A reply is four numbers written into a lent array: number, line, count, and which of two files was refused, 0 if neither
 // was and 0 where there is one file only.
-use records::Reply;
-use records::Verdict;
+use law::Reply;
+use law::Verdict;
 ghost use mathlib.Core.Path.{_≡_};
 ghost use lib.ListN.{length};
-ghost use Rattle.reading.specs.Replies.{checkReply, readReply, readRows};
-ghost use Rattle.writing.specs.Outcomes.{writeReply, writeText};
-ghost use Rattle.comparing.specs.Verdicts.{sameReply};
-ghost use Rattle.judging.specs.Verdicts.{judgeReply};
+ghost use Rattle.read.specs.Replies.{checkReply, readReply, readRows};
+ghost use Rattle.write.specs.Outcomes.{writeReply, writeText};
+ghost use Rattle.same.specs.Verdicts.{sameReply};
+ghost use Rattle.judge.specs.Verdicts.{judgeReply};
 ghost use Rattle.viewer.specs.Views.{stepOf, placesAfter};
 ghost use Rattle.quayladle.specs.Numbers.{ofOne, ofTwo, ofPlace};
 
@@ -39,7 +39,7 @@ fn of_place(s: viewer::Step) -> [u64; 2]
 pub extern "C" fn quayladle_check(file: &[u8], reply: &mut [u64; 4])
     ensures { λ _. ⌜ now (reply .exit) ≡ ofOne (checkReply (now (file .entry))) ⌝ }
 {
-    *reply = of_one(reading::whole::check(file));
+    *reply = of_one(read::whole::check(file));
 }
 
 // A file's rows from the front of the slice on, where they fit; the slice stays as it is on every refusal.
@@ -48,7 +48,7 @@ pub extern "C" fn quayladle_read(file: &[u8], rows: &mut [i64], reply: &mut [u64
     ensures { λ _. ⌜ now (reply .exit) ≡ ofOne (readReply (now (file .entry)) (length (now (rows .entry)))) ⌝ }
     ensures { λ _. ⌜ now (rows .exit) ≡ readRows (now (file .entry)) (now (rows .entry)) ⌝ }
 {
-    *reply = of_one(reading::whole::read(file, rows));
+    *reply = of_one(read::whole::read(file, rows));
 }
 
 // The canonical text of rows from the front of the slice on, where it fits; `text` holds the bytes that the rows name.
@@ -58,7 +58,7 @@ pub extern "C" fn quayladle_write(rows: &[i64], text: &[u8], out: &mut [u8], rep
     ensures { λ _. ⌜ now (reply .exit) ≡ ofOne (writeReply (now (rows .entry)) (now (text .entry)) (length (now (out .entry)))) ⌝ }
     ensures { λ _. ⌜ now (out .exit) ≡ writeText (now (rows .entry)) (now (text .entry)) (now (out .entry)) ⌝ }
 {
-    *reply = of_one(writing::whole::write(rows, text, out));
+    *reply = of_one(write::whole::write(rows, text, out));
 }
 
 // Whether two files mean the same: the refusal of the first, else of the second, else a count of 1 or 0.
@@ -66,7 +66,7 @@ pub extern "C" fn quayladle_write(rows: &[i64], text: &[u8], out: &mut [u8], rep
 pub extern "C" fn quayladle_same(first: &[u8], second: &[u8], reply: &mut [u64; 4])
     ensures { λ _. ⌜ now (reply .exit) ≡ ofTwo (sameReply (now (first .entry)) (now (second .entry))) ⌝ }
 {
-    *reply = of_two(comparing::same(first, second));
+    *reply = of_two(same::same(first, second));
 }
 
 // A board or panel judged against a library; the count is that of its placements, or the number of the first that lacks its entry.
@@ -74,7 +74,7 @@ pub extern "C" fn quayladle_same(first: &[u8], second: &[u8], reply: &mut [u64; 
 pub extern "C" fn quayladle_judge(board: &[u8], library: &[u8], reply: &mut [u64; 4])
     ensures { λ _. ⌜ now (reply .exit) ≡ ofTwo (judgeReply (now (board .entry)) (now (library .entry))) ⌝ }
 {
-    *reply = of_two(judging::whole::judge(board, library));
+    *reply = of_two(judge::whole::judge(board, library));
 }
 
 // Start and length of each field of the line at a place, whose number is `line`, from the front of the slice on; the slice stays

@@ -8,7 +8,8 @@ use native.Mathlib.Omega.{arith}
 use borrow.Author.Tests.{le-leb, lt-leb, eq-eqb, ne-eqb, eqb-true}
 use lib.Dec.{eqb}
 use lib.ListN.{length, drop, getD}
-use Rattle.text.specs.Bytes.{permitted, classOf, allOf}
+use Rattle.law.specs.Bytes.{permitted, allOf}
+use Rattle.text.specs.Bytes.{classOf}
 use Rattle.text.specs.declared.ByteClass.{ByteClass}
 use Rattle.text.specs.declared.ByteClass.the-variants.{Space, Quote, Permitted, Forbidden}
 use Rattle.text.proofs.Lists.{at-cons, at-end}

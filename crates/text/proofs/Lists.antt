@@ -7,8 +7,8 @@ use native.Mathlib.Omega.{arith}
 use native.Mathlib.Numerals.{add-one}
 use lib.ListN.{length, take, drop, getD, length-drop}
 use lib.Seq.{drop-cons, take-all}
-use Rattle.text.specs.Bytes as by
-use Rattle.text.specs.Bytes.{All, allOf}
+use Rattle.law.specs.Bytes as by
+use Rattle.law.specs.Bytes.{All, allOf}
 
 -- the list from an index: what stands there and the rest, or nothing
 pub at-cons : (s : List ℕ) (i : ℕ) → i < length s → drop i s ≡ getD s i 0 ∷ drop (i + 1) s

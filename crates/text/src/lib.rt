@@ -2,7 +2,8 @@
 ghost use mathlib.Core.Path.{_≡_};
 ghost use Prim.Native.Nat.{_<_};
 ghost use lib.ListN.{length, drop};
-ghost use Rattle.text.specs.Bytes.{classOf, permitted, begins, allOf};
+ghost use Rattle.text.specs.Bytes.{classOf};
+ghost use Rattle.law.specs.Bytes.{permitted, begins, allOf};
 ghost use Rattle.text.specs.Lines.{endLen, lineEnd};
 
 // The class of a byte. Byte 10 is forbidden: it never stands inside a line.

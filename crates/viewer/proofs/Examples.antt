@@ -4,11 +4,11 @@ use mathlib.Core.Path.{_≡_, refl}
 use mathlib.Core.List.{List, [], _∷_}
 use lib.IntN.{ℤ, pos}
 use lib.ListN.{replicate}
-use Rattle.text.specs.Bytes.{permitted, allOf, begins}
-use Rattle.cutting.specs.FirstField.{span, endsWell, bareAt, closedAt, quotedAt, fieldAt, fieldOf}
-use Rattle.cutting.specs.Fields.{fieldsIn, fieldsOf, countOf}
+use Rattle.law.specs.Bytes.{permitted, allOf, begins}
+use Rattle.text_fields.specs.FirstField.{span, endsWell, bareAt, closedAt, quotedAt, fieldAt, fieldOf}
+use Rattle.text_fields.specs.Fields.{fieldsIn, fieldsOf, countOf}
 use Rattle.text.specs.Lines.{endLen, contentLen, lineEnd}
-use Rattle.records.specs.Answers.{reply}
+use Rattle.law.specs.Answers.{reply}
 use Rattle.viewer.specs.declared.Step.{Step}
 use Rattle.viewer.specs.Views.{lineAt, nextAt, seenOf, placesIn, placesOf, lineReply, replyAt, stepBy, stepOf, placesAfter}
 

@@ -6,12 +6,12 @@ use mathlib.Core.Option.{Option, none, some}
 use native.Mathlib.Omega.{arith}
 use lib.ListN.{length, take, drop, length-drop, length-take}
 use lib.Seq.{take-take, drop-drop}
-use Rattle.text.specs.Bytes.{Field, field}
-use Rattle.cutting.specs.FirstField.{fieldOf}
-use Rattle.cutting.specs.Fields.{before, fieldsBy, fieldsIn, fieldsOf}
-use Rattle.cutting.specs.declared.FieldAnswer.{FieldAnswer}
-use Rattle.cutting.specs.declared.FieldAnswer.the-variants.{Nothing, Got, Broken}
-use Rattle.cutting.proofs.Bounds.{Lies, Bounded, bounded}
+use Rattle.law.specs.Fields.{Field, field}
+use Rattle.text_fields.specs.FirstField.{fieldOf}
+use Rattle.text_fields.specs.Fields.{before, fieldsBy, fieldsIn, fieldsOf}
+use Rattle.text_fields.specs.declared.FieldAnswer.{FieldAnswer}
+use Rattle.text_fields.specs.declared.FieldAnswer.the-variants.{Nothing, Got, Broken}
+use Rattle.text_fields.proofs.Bounds.{Lies, Bounded, bounded}
 use Rattle.viewer.specs.Views.{lookedAt, lineAt, placesBy, placesIn, placesOf}
 use Rattle.viewer.specs.Handing.{textsAt, fieldBytes}
 

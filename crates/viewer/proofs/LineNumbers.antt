@@ -8,15 +8,15 @@ use borrow.Author.Tests.{ltb-true, ltb-false}
 use lib.Dec.{ltb}
 use lib.ListN.{length, take, drop, length-drop}
 use lib.Seq.{drop-drop}
-use Rattle.text.specs.Bytes.{permitted, allOf}
-use Rattle.cutting.specs.Fields.{countOf}
-use Rattle.cutting.specs.declared.CountAnswer.{CountAnswer}
-use Rattle.cutting.specs.declared.CountAnswer.the-variants.{Fields as Counted, Bad}
+use Rattle.law.specs.Bytes.{permitted, allOf}
+use Rattle.text_fields.specs.Fields.{countOf}
+use Rattle.text_fields.specs.declared.CountAnswer.{CountAnswer}
+use Rattle.text_fields.specs.declared.CountAnswer.the-variants.{Fields as Counted, Bad}
 use Rattle.text.specs.Lines.{lineEnd, linesIn, linesOf}
 use Rattle.text.proofs.LineLaws.{lines-none, lines-first}
 use Rattle.text.proofs.Lists.{at-end}
-use Rattle.records.specs.declared.Reply.{Reply}
-use Rattle.records.specs.Answers.{limit, reply}
+use Rattle.law.specs.declared.Reply.{Reply}
+use Rattle.law.specs.Answers.{limit, reply}
 use Rattle.viewer.specs.declared.Step.{Step}
 use Rattle.viewer.specs.declared.Seen.{Seen}
 use Rattle.viewer.specs.declared.Seen.the-variants.{Fields, Refused}

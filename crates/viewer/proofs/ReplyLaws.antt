@@ -10,16 +10,16 @@ use borrow.Author.Tests.{lt-ltb, le-ltb}
 use lib.Dec.{eqb}
 use lib.IntN.{ℤ}
 use lib.ListN.{length, take, drop, length-drop, length-take}
-use Rattle.text.specs.Bytes.{permitted, allOf, begins}
+use Rattle.law.specs.Bytes.{permitted, allOf, begins}
 use Rattle.text.specs.Lines.{lineEnd}
-use Rattle.cutting.specs.Fields.{countOf}
-use Rattle.cutting.specs.declared.CountAnswer.{CountAnswer}
-use Rattle.cutting.specs.declared.CountAnswer.the-variants.{Fields as Counted, Bad}
+use Rattle.text_fields.specs.Fields.{countOf}
+use Rattle.text_fields.specs.declared.CountAnswer.{CountAnswer}
+use Rattle.text_fields.specs.declared.CountAnswer.the-variants.{Fields as Counted, Bad}
 use Rattle.text.specs.declared.LineEnd.{LineEnd}
 use Rattle.text.proofs.Lists.{rest}
 use Rattle.text.proofs.LineLaws.{line-inside}
-use Rattle.records.specs.declared.Reply.{Reply}
-use Rattle.records.specs.Answers.{limit, reply, over}
+use Rattle.law.specs.declared.Reply.{Reply}
+use Rattle.law.specs.Answers.{limit, reply, over}
 use Rattle.viewer.specs.declared.Step.{Step}
 use Rattle.viewer.specs.declared.Seen.{Seen}
 use Rattle.viewer.specs.declared.Seen.the-variants.{Fields, Refused}

@@ -4,9 +4,9 @@ use mathlib.Core.Path.{_≡_}
 use mathlib.Core.List.{List, [], _∷_}
 use lib.IntN.{ℤ}
 use lib.ListN.{length, drop}
-use Rattle.text.specs.Bytes.{Field, field}
+use Rattle.law.specs.Fields.{Field, field}
 use Rattle.text.specs.Lines.{linesOf}
-use Rattle.spans.specs.Texts.{textAt}
+use Rattle.rows_texts.specs.Texts.{textAt}
 
 -- the bytes that a start and a length name in a file, for each two numbers
 unfoldable pub textsAt : List ℕ → List ℤ → List (List ℕ)

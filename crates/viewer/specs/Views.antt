@@ -5,16 +5,16 @@ use mathlib.Core.Bool.{Bool, cond, _||_}
 use lib.Dec.{ltb, eqb}
 use lib.IntN.{ℤ, pos}
 use lib.ListN.{length, take, drop}
-use Rattle.text.specs.Bytes.{permitted, allOf, begins}
+use Rattle.law.specs.Bytes.{permitted, allOf, begins}
 use Rattle.text.specs.Lines.{lineEnd}
-use Rattle.cutting.specs.FirstField.{fieldOf}
-use Rattle.cutting.specs.Fields.{countOf}
-use Rattle.cutting.specs.declared.FieldAnswer.{FieldAnswer}
-use Rattle.cutting.specs.declared.FieldAnswer.the-variants.{Nothing, Got, Broken}
-use Rattle.cutting.specs.declared.CountAnswer.{CountAnswer}
-use Rattle.cutting.specs.declared.CountAnswer.the-variants.{Fields as Counted, Bad}
-use Rattle.records.specs.declared.Reply.{Reply}
-use Rattle.records.specs.Answers.{limit, reply, over}
+use Rattle.text_fields.specs.FirstField.{fieldOf}
+use Rattle.text_fields.specs.Fields.{countOf}
+use Rattle.text_fields.specs.declared.FieldAnswer.{FieldAnswer}
+use Rattle.text_fields.specs.declared.FieldAnswer.the-variants.{Nothing, Got, Broken}
+use Rattle.text_fields.specs.declared.CountAnswer.{CountAnswer}
+use Rattle.text_fields.specs.declared.CountAnswer.the-variants.{Fields as Counted, Bad}
+use Rattle.law.specs.declared.Reply.{Reply}
+use Rattle.law.specs.Answers.{limit, reply, over}
 use Rattle.viewer.specs.declared.Step.{Step}
 use Rattle.viewer.specs.declared.Seen.{Seen}
 use Rattle.viewer.specs.declared.Seen.the-variants.{Fields, Refused}

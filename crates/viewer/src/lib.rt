@@ -4,7 +4,7 @@
 // and every line number has an answer, and a place at or past the end of the file is one where no line is left.
 pub mod line;
 
-use records::Reply;
+use law::Reply;
 ghost use mathlib.Core.Path.{_≡_};
 ghost use lib.ListN.{length};
 ghost use Rattle.viewer.specs.Views.{stepOf, placesAfter};

@@ -1,17 +1,18 @@
 // The fields of the line at a place of a file, into a lent slice. Any place and any line number have an answer.
 use crate::Seen;
 use crate::Step;
-use cutting::CountAnswer;
-use cutting::FieldAnswer;
-use records::LIMIT;
-use records::Reply;
+use law::Reply;
+use law::refusals;
+use order::LIMIT;
+use text_fields::CountAnswer;
+use text_fields::FieldAnswer;
 ghost use mathlib.Core.Path.{_≡_};
 ghost use mathlib.Core.Bool.{cond};
 ghost use Prim.Native.Nat.{_+_, _^_, _≤_, _<_};
 ghost use lib.IntN.{pos};
 ghost use lib.ListN.{length, set};
-ghost use Rattle.text.specs.Bytes.{begins};
-ghost use Rattle.records.specs.Answers.{over};
+ghost use Rattle.law.specs.Bytes.{begins};
+ghost use Rattle.law.specs.Answers.{over};
 ghost use Rattle.viewer.specs.Views.{seenOf, placesOf, lineReply, linePlaces, movesOn, lineAfter, stepBy, stepOf, placesAfter};
 
 // What a line holds.
@@ -19,11 +20,11 @@ fn fields_in(line: &[u8]) -> Seen
     ensures { λ r. ⌜ r ≡ seenOf (now (line .entry)) ⌝ }
 {
     if !text::clean(line) {
-        return Seen::Refused(3);
+        return Seen::Refused(refusals::FORBIDDEN_BYTE);
     }
-    match cutting::count_fields(line) {
+    match text_fields::count_fields(line) {
         CountAnswer::Fields(n) => Seen::Fields(n),
-        CountAnswer::Bad => Seen::Refused(4),
+        CountAnswer::Bad => Seen::Refused(refusals::BROKEN_QUOTING),
     }
 }
 
@@ -44,7 +45,7 @@ fn put_fields(line: &[u8], base: usize, out: &mut [i64])
     let mut at = 0;
     let mut n = 0;
     loop {
-        match cutting::field(&line[at..]) {
+        match text_fields::field(&line[at..]) {
             FieldAnswer::Nothing => {
                 return;
             }
@@ -80,7 +81,7 @@ fn hand_out(line: &[u8], base: usize, number: u64, out: &mut [i64]) -> Reply
         Seen::Fields(n) => {
             if out.len() / 2 < n {
                 return Reply {
-                    number: 2,
+                    number: refusals::FEW_ROWS,
                     line: 0,
                     count: n as u64,
                 };
@@ -106,7 +107,7 @@ fn looked_at(s: &[u8], content: usize) -> usize
 fn moves_on(number: u64) -> bool
     ensures { λ r. ⌜ r ≡ movesOn number ⌝ }
 {
-    (number == 0) | (number == 3) | (number == 4)
+    (number == 0) | (number == refusals::FORBIDDEN_BYTE) | (number == refusals::BROKEN_QUOTING)
 }
 
 // The number of the next line; the largest number, which no line has, stays.
@@ -143,7 +144,7 @@ pub fn fields_at(file: &[u8], at: usize, line: u64, out: &mut [i64]) -> Step
     if LIMIT < file.len() {
         return step(
             Reply {
-                number: 1,
+                number: refusals::TOO_LARGE,
                 line: 0,
                 count: 0,
             },
@@ -155,7 +156,7 @@ pub fn fields_at(file: &[u8], at: usize, line: u64, out: &mut [i64]) -> Step
     if file.len() <= at {
         return step(
             Reply {
-                number: 13,
+                number: refusals::TOO_EARLY,
                 line: line,
                 count: 0,
             },

@@ -7,7 +7,7 @@ use native.Mathlib.Omega.{arith}
 use borrow.Author.Needs.{needs}
 use lib.Dec.{eqb}
 use lib.ListN.{length, getD}
-use Rattle.text.specs.Bytes.{begins}
+use Rattle.law.specs.Bytes.{begins}
 use Rattle.text.proofs.begins_with.Statement.{statement}
 use Rattle.text.proofs.begins_with.Tie as tie
 

@@ -3,7 +3,8 @@ use mathlib.Core.Path.{_≡_, sym, ap, _∙_}
 use Prim.Native.Nat.{ℕ}
 use mathlib.Core.Bool.{true, false}
 use borrow.Author.Needs.{needs}
-use Rattle.text.specs.Bytes.{permitted, classOf}
+use Rattle.law.specs.Bytes.{permitted}
+use Rattle.text.specs.Bytes.{classOf}
 use Rattle.text.specs.declared.ByteClass.{ByteClass}
 use Rattle.text.specs.declared.ByteClass.the-variants.{Space, Quote, Permitted, Forbidden}
 use Rattle.text.proofs.ByteLaws.{allowed, class-allows}

@@ -45,8 +45,8 @@ use denote.Triple.Entry.{Vals, onEntry}
 use denote.Triple.Spec.{Meets, tripleOf}
 use denote.Triple.Table.{entered, cited}
 use denote.Triple.Walked.{says, Stays, stay-ref, gave-slice, walkOf, goes-ref, goes-gave-slice, Walks, ends-at, walked, walk-meets}
-use Rattle.records.proofs.Reply as P
-use Rattle.records.proofs.Reply.Laws as P′
+use Rattle.law.proofs.Reply as P
+use Rattle.law.proofs.Reply.Laws as P′
 use Rattle.viewer.specs.Views.{stepOf, placesAfter}
 use Rattle.viewer.specs.Readers.{movedBy}
 use Rattle.viewer.specs.declared.Reader.{Reader}

@@ -48,9 +48,9 @@ use denote.Triple.Spec.{Meets, tripleOf}
 use denote.Triple.Table.{entered, cited}
 use denote.Triple.Walked.{says, Stays, stay-none, stay-none-slice, gave-slice, walkOf, goes-none, goes-none-slice, goes-gave-slice, Walks, ends-at, walked, walk-meets}
 use denote.Exit.{yes}
-use Rattle.records.specs.declared.Reply.{Reply}
-use Rattle.records.proofs.Reply as P
-use Rattle.records.proofs.Reply.Laws as P′
+use Rattle.law.specs.declared.Reply.{Reply}
+use Rattle.law.proofs.Reply as P
+use Rattle.law.proofs.Reply.Laws as P′
 use Rattle.viewer.specs.Readers.{stepHere, movedBy, placesHere}
 use Rattle.viewer.specs.declared.Reader.{Reader}
 use Rattle.viewer.specs.declared.Step.{Step}

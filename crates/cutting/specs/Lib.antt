@@ -1,5 +1,0 @@
-pub mod Looks
-pub mod FirstField
-pub mod Fields
-pub mod FieldRules
-pub mod Starts

@@ -1,2 +1,0 @@
-pub mod JudgeRules
-pub mod JudgeLists

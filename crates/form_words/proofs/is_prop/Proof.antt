@@ -1,0 +1,18 @@
+-- `form_words::is_prop` meets its contract. Assumes nothing.
+use borrow.Author.Needs.{needs}
+use Rattle.form_words.proofs.NameLaws.{prop-is}
+use Rattle.form_words.proofs.is_prop.Statement.{statement}
+use Rattle.form_words.proofs.is_prop.Tie as tie
+
+ruleset laws = (prop-is, needs)
+
+matches-requires : tie.Need-matches-requires
+matches-requires c κs = search laws
+
+returns : tie.Need-returns
+returns c = search laws
+
+pub is-prop-spec : {M : Type 1} → statement M
+is-prop-spec =
+    tie.close
+    (tie.spec matches-requires returns)

@@ -1,0 +1,131 @@
+-- The tables of names and words as the code has them: rows of one length, padded with spaces; and rows compared with bytes.
+use Prim.Native.Nat.{ℕ, suc, _+_, _-_}
+use mathlib.Core.List.{List, [], _∷_}
+use mathlib.Core.Option.{Option, none, some}
+use mathlib.Core.Bool.{Bool, true, false, cond, not, _&&_}
+use lib.Dec.{ltb, eqb}
+use lib.ListN.{getD, take, drop}
+use Rattle.law.specs.Bytes.{ascii}
+use Rattle.form.specs.Compare.{capital}
+use Rattle.form_words.specs.declared.Found.{Found}
+use Rattle.form_words.specs.declared.Found.the-variants.{At, Nowhere}
+use Rattle.form.specs.declared.Keyword.{Keyword}
+use Rattle.form.specs.declared.Keyword.the-variants.{Closing, Unknown}
+use Rattle.form_words.specs.declared.Span.{Span}
+use Rattle.law.specs.declared.Rules.{Rules}
+use Rattle.law.specs.declared.Rules.the-variants.{Idf3}
+use Rattle.law.specs.declared.Words.{Words}
+use Rattle.law.specs.declared.Words.the-variants.{FileTypes, Units, Owners, Faces, Sides, Layers, Plates, Statuses}
+
+-- a byte as it is compared: in capitals, or as it stands
+abbrev pub keyed : Bool → ℕ → ℕ
+keyed true b = capital b
+keyed false b = b
+
+-- what stands before a row's padding
+unfoldable pub trimmed : List ℕ → List ℕ
+trimmed [] = []
+trimmed (b ∷ s) = cond (eqb b 32) [] (b ∷ trimmed s)
+
+-- bytes, letters folded or not, that are those of a padded row
+unfoldable pub matched : Bool → List ℕ → List ℕ → Bool
+matched fold [] [] = true
+matched fold [] (b ∷ s) = false
+matched fold (r ∷ row) [] = eqb r 32
+matched fold (r ∷ row) (b ∷ s) = not (eqb r 32) && (eqb r (keyed fold b) && matched fold row s)
+
+-- the first byte as it is compared, 0 where there is none
+abbrev pub headOf : Bool → List ℕ → ℕ
+headOf fold [] = 0
+headOf fold (b ∷ s) = keyed fold b
+
+abbrev pub found : Option ℕ → Found
+found none = Nowhere
+found (some n) = At n
+
+-- section names, then words, list after list
+unfoldable pub rowTable : List (List ℕ)
+rowTable =
+    ascii "HEADER          "
+    ∷ ascii "BOARD_OUTLINE   "
+    ∷ ascii "PANEL_OUTLINE   "
+    ∷ ascii "OTHER_OUTLINE   "
+    ∷ ascii "ROUTE_OUTLINE   "
+    ∷ ascii "PLACE_OUTLINE   "
+    ∷ ascii "ROUTE_KEEPOUT   "
+    ∷ ascii "VIA_KEEPOUT     "
+    ∷ ascii "PLACE_KEEPOUT   "
+    ∷ ascii "PLACE_REGION    "
+    ∷ ascii "DRILLED_HOLES   "
+    ∷ ascii "NOTES           "
+    ∷ ascii "PLACEMENT       "
+    ∷ ascii "ELECTRICAL      "
+    ∷ ascii "MECHANICAL      "
+    ∷ ascii "BOARD_FILE      "
+    ∷ ascii "PANEL_FILE      "
+    ∷ ascii "LIBRARY_FILE    "
+    ∷ ascii "MM              "
+    ∷ ascii "THOU            "
+    ∷ ascii "MCAD            "
+    ∷ ascii "ECAD            "
+    ∷ ascii "UNOWNED         "
+    ∷ ascii "TOP             "
+    ∷ ascii "BOTTOM          "
+    ∷ ascii "TOP             "
+    ∷ ascii "BOTTOM          "
+    ∷ ascii "BOTH            "
+    ∷ ascii "TOP             "
+    ∷ ascii "BOTTOM          "
+    ∷ ascii "BOTH            "
+    ∷ ascii "INNER           "
+    ∷ ascii "ALL             "
+    ∷ ascii "PTH             "
+    ∷ ascii "NPTH            "
+    ∷ ascii "PLACED          "
+    ∷ ascii "UNPLACED        "
+    ∷ ascii "MCAD            "
+    ∷ ascii "ECAD            "
+    ∷ []
+
+-- the number from n on of the first row that matches
+unfoldable pub sought : Bool → ℕ → List (List ℕ) → List ℕ → Found
+sought fold n [] s = Nowhere
+sought fold n (r ∷ rows) s = cond (matched fold r s) (At n) (sought fold (suc n) rows s)
+
+-- where a list of words stands in the table
+abbrev pub spanOf : Rules → Words → Span
+spanOf Idf3 FileTypes = record { first = 15; count = 3 }
+spanOf Idf3 Units = record { first = 18; count = 2 }
+spanOf Idf3 Owners = record { first = 20; count = 3 }
+spanOf Idf3 Faces = record { first = 23; count = 2 }
+spanOf Idf3 Sides = record { first = 25; count = 3 }
+spanOf Idf3 Layers = record { first = 28; count = 5 }
+spanOf Idf3 Plates = record { first = 33; count = 2 }
+spanOf Idf3 Statuses = record { first = 35; count = 4 }
+
+-- a row that holds no word
+unfoldable pub blankRow : List ℕ
+blankRow = ascii "                "
+
+-- the row of a word by its place, and of a section's name
+unfoldable pub wordRow : Rules → Words → ℕ → List ℕ
+wordRow v l n = cond (ltb n (spanOf v l .count)) (getD rowTable (spanOf v l .first + n) []) blankRow
+
+unfoldable pub nameRow : ℕ → List ℕ
+nameRow s = cond (eqb s 0) blankRow (cond (ltb 15 s) blankRow (getD rowTable (s - 1) []))
+
+-- begins with END_, in any letter case
+unfoldable pub endsName : List ℕ → Bool
+endsName (a ∷ b ∷ c ∷ d ∷ s) = (eqb (capital a) 69 && eqb (capital b) 78) && (eqb (capital c) 68 && eqb (capital d) 95)
+endsName (a ∷ b ∷ c ∷ []) = false
+endsName (a ∷ b ∷ []) = false
+endsName (a ∷ []) = false
+endsName [] = false
+
+abbrev pub closingBy : Found → Keyword
+closingBy (At n) = Closing (n + 1)
+closingBy Nowhere = Unknown
+
+-- what a keyword without its period does where it does not open a section
+unfoldable pub closingOf : List ℕ → Keyword
+closingOf s = cond (endsName s) (closingBy (sought true 0 (take 15 rowTable) (drop 4 s))) Unknown

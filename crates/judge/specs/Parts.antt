@@ -1,0 +1,40 @@
+-- The placements of a board in parts, by the hash of their names; no verdict depends on the parts.
+use Prim.Native.Nat.{ℕ, _+_}
+use mathlib.Core.List.{List}
+use mathlib.Core.Bool.{Bool, cond, _&&_}
+use lib.Dec.{ltb, eqb}
+use lib.IntN.{ℤ, pos}
+use Rattle.order_loops.specs.Loops.{eqZ}
+use Rattle.walk.specs.declared.Turn.{Turn}
+use Rattle.walk.specs.Judging.{columnAt}
+use Rattle.walk.specs.Walks.{Trace, done, stop, skip, row, traceOf}
+use Rattle.names.specs.Marks.{keyOf}
+use Rattle.law.specs.declared.Verdict.{Verdict}
+use Rattle.law.specs.Answers.{verdict}
+use Rattle.judge_stock.specs.Stock.{isIn}
+use Rattle.judge.specs.Entries.{lacksEntry, lacks}
+
+-- a placement's name is in a part, of so many
+unfoldable pub asked : ℕ → ℕ → List ℕ → List ℤ → Bool
+asked parts part board x = isIn (keyOf board x) parts part
+
+-- a line is a placement that passes a test and lacks its entry
+unfoldable pub missed : (List ℤ → Bool) → List ℕ → List ℕ → Turn → Bool
+missed p library board t = p (t .row) && lacks library board t
+
+-- lines behind n placements: 16 at the first of those that pass a test and lack their entry, or the number of all placements
+unfoldable pub amongFrom : (List ℤ → Bool) → List ℕ → List ℕ → ℕ → Trace → Verdict
+amongFrom p library board n (done w) = verdict 0 0 n 0
+amongFrom p library board n (stop k l) = verdict 0 0 n 0
+amongFrom p library board n (skip l t) = amongFrom p library board n t
+amongFrom p library board n (row l x t) =
+    cond (eqZ (columnAt x 0) (pos 131))
+    (cond (p x && lacksEntry library board x) (verdict 16 0 (n + 1) 1) (amongFrom p library board (n + 1) t))
+    (amongFrom p library board n t)
+
+unfoldable pub amongOf : (List ℤ → Bool) → List ℕ → List ℕ → Verdict
+amongOf p library board = amongFrom p library board 0 (traceOf board)
+
+-- of two verdicts on one board the one that names the earlier placement; number 0 names none
+unfoldable pub sooner : Verdict → Verdict → Verdict
+sooner a b = cond (eqb (a .number) 0) b (cond (eqb (b .number) 0) a (cond (ltb (b .count) (a .count)) b a))

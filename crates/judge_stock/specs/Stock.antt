@@ -1,0 +1,105 @@
+-- A library's components in slots, by which a placement's entry is found; no verdict depends on them.
+use Prim.Native.Nat.{ℕ, _+_, _*_, _-_, _/_, _%_}
+use mathlib.Core.List.{List}
+use mathlib.Core.Bool.{Bool, true, false, cond, _&&_}
+use lib.Dec.{ltb, eqb}
+use lib.IntN.{ℤ, pos, natAbs}
+use Rattle.order_loops.specs.Loops.{eqZ}
+use Rattle.names_slots.specs.Slots as slot
+use Rattle.walk.specs.declared.Turn.{Turn}
+use Rattle.walk.specs.Judging.{columnAt}
+use Rattle.walk.specs.Walks.{isRow, Trace, done, stop, skip, row, traceOf}
+use Rattle.names.specs.Marks.{keyOf}
+use Rattle.names.specs.Names.{leadsComponent}
+use Rattle.rows_texts.specs.Texts.{sameTexts}
+
+-- the kind of an electrical or a mechanical component, and its code
+abbrev pub kindFor : Bool → ℤ
+kindFor true = pos 151
+kindFor false = pos 141
+
+abbrev pub codeFor : Bool → ℕ
+codeFor true = 2
+codeFor false = 1
+
+-- a geometry at a of l bytes and a part at b of m bytes in one number, if they are small and near each other; else 0
+unfoldable pub packOf : Bool → ℕ → ℕ → ℕ → ℕ → ℕ
+packOf mechanical a l b m =
+    cond (ltb 16_777_216 a) 0
+    (cond (ltb 1_023 l) 0
+    (cond (ltb 1_023 m) 0
+    (cond (ltb b (a + l)) 0
+    (cond (ltb 1_023 (b - (a + l))) 0
+    ((((a * 1_024 + l) * 1_024 + (b - (a + l))) * 1_024 + m) * 4 + codeFor mechanical)))))
+
+unfoldable pub packedRow : Bool → List ℤ → ℕ
+packedRow mechanical y = packOf mechanical (natAbs (columnAt y 1)) (natAbs (columnAt y 2)) (natAbs (columnAt y 3)) (natAbs (columnAt y 4))
+
+-- the names in such a number are those of a board's row x
+unfoldable pub isNamed : List ℕ → ℕ → List ℕ → List ℤ → Bool
+isNamed library e board x =
+    let a = e / 4_294_967_296 in
+    let l = e / 4_194_304 % 1_024 in
+    sameTexts library (pos a) (pos l) board (columnAt x 1) (columnAt x 2)
+    && sameTexts library (pos (a + l + e / 4_096 % 1_024)) (pos (e / 4 % 1_024)) board (columnAt x 3) (columnAt x 4)
+
+-- and its kind is wanted
+unfoldable pub holdsName : List ℕ → Bool → List ℕ → List ℤ → ℕ → Bool
+holdsName library mechanical board x e = eqb (e % 4) (codeFor mechanical) && isNamed library e board x
+
+-- some bits of a hash, others than those that tell its slot
+abbrev pub tagOf : ℕ → ℕ
+tagOf h = h / 2_147_483_648 % 128
+
+-- such a number with its name's tag behind it, so that most others are told apart without a look at their names
+unfoldable pub tagged : ℕ → ℕ → ℕ
+tagged h e = e * 128 + tagOf h
+
+unfoldable pub showsBy : List ℕ → ℕ → Bool → List ℕ → List ℤ → ℕ → Bool
+showsBy library h mechanical board x e = eqb (e % 128) (tagOf h) && holdsName library mechanical board x (e / 128)
+
+-- a slot's number is the entry of a board's row x, of this kind
+abbrev pub showsName : List ℕ → Bool → List ℕ → List ℤ → ℕ → Bool
+showsName library mechanical board x e = showsBy library (keyOf board x) mechanical board x e
+
+-- a hash is in a part, of so many; in one part there are all
+unfoldable pub isIn : ℕ → ℕ → ℕ → Bool
+isIn h parts part = cond (ltb parts 2) true (eqb (h / 17_592_186_044_416 % parts) part)
+
+-- a row's names under their hash, if that is in the part
+unfoldable pub putName : ℕ → ℕ → List ℕ → List ℕ → Bool → List ℤ → List ℕ
+putName parts part library places mechanical y =
+    cond (isIn (keyOf library y) parts part) (slot.placed places (keyOf library y) (tagged (keyOf library y) (packedRow mechanical y))) places
+
+-- slots with the names of a row, if it is a component's
+unfoldable pub stockedRow : ℕ → ℕ → List ℕ → List ℕ → List ℤ → List ℕ
+stockedRow parts part library places y =
+    cond (eqZ (columnAt y 0) (pos 141)) (putName parts part library places false y)
+    (cond (eqZ (columnAt y 0) (pos 151)) (putName parts part library places true y) places)
+
+unfoldable pub stockedBy : ℕ → ℕ → List ℕ → List ℕ → Turn → List ℕ
+stockedBy parts part library places t = cond (isRow (t .found)) (stockedRow parts part library places (t .row)) places
+
+-- with those of all lines
+unfoldable pub stockIn : ℕ → ℕ → List ℕ → List ℕ → Trace → List ℕ
+stockIn parts part library places (done w) = places
+stockIn parts part library places (stop n l) = places
+stockIn parts part library places (skip l t) = stockIn parts part library places t
+stockIn parts part library places (row l y t) = stockIn parts part library (stockedRow parts part library places y) t
+
+unfoldable pub stockOf : ℕ → ℕ → List ℕ → List ℕ → List ℕ
+stockOf parts part library places = stockIn parts part library places (traceOf library)
+
+-- how many components there are with a line more, in the part or not
+unfoldable pub counted : ℕ → Turn → ℕ
+counted n t = cond (isRow (t .found) && leadsComponent (t .row)) (n + 1) n
+
+-- and with all lines, behind n of them
+unfoldable pub componentsIn : ℕ → Trace → ℕ
+componentsIn n (done w) = n
+componentsIn n (stop k l) = n
+componentsIn n (skip l t) = componentsIn n t
+componentsIn n (row l y t) = componentsIn (cond (leadsComponent y) (n + 1) n) t
+
+unfoldable pub componentsOf : List ℕ → ℕ
+componentsOf library = componentsIn 0 (traceOf library)

@@ -1,9 +1,0 @@
-pub mod Signs
-pub mod Limits
-pub mod Digits
-pub mod Numbers
-pub mod Integers
-pub mod Dates
-pub mod NumberRules
-pub mod IntegerRules
-pub mod DateRules

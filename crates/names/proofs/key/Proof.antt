@@ -1,0 +1,33 @@
+-- `names::key` meets its contract. Assumes nothing.
+use borrow.Author.Needs.{needs}
+use Rattle.names.proofs.KeyLaws.{key-is}
+use Rattle.names.proofs.key.Statement.{statement}
+use Rattle.names.proofs.key.Tie as tie
+
+ruleset laws = (key-is, needs)
+
+array-copy-out-hash-text : tie.Need-array-copy-out-hash-text
+array-copy-out-hash-text c = search laws
+
+array-copy-out-hash-text-2 : tie.Need-array-copy-out-hash-text-2
+array-copy-out-hash-text-2 c = search laws
+
+hash-text-requires : tie.Need-hash-text-requires
+hash-text-requires c κs = search laws
+
+array-copy-out-hash-text-3 : tie.Need-array-copy-out-hash-text-3
+array-copy-out-hash-text-3 c = search laws
+
+array-copy-out-hash-text-4 : tie.Need-array-copy-out-hash-text-4
+array-copy-out-hash-text-4 c = search laws
+
+hash-text-requires-2 : tie.Need-hash-text-requires-2
+hash-text-requires-2 c κs = search laws
+
+returns : tie.Need-returns
+returns c = search laws
+
+pub key-spec : {M : Type 1} → statement M
+key-spec =
+    tie.close
+    (tie.spec array-copy-out-hash-text array-copy-out-hash-text-2 hash-text-requires array-copy-out-hash-text-3 array-copy-out-hash-text-4 hash-text-requires-2 returns)

@@ -1,0 +1,4 @@
+pub mod Signs
+pub mod Limits
+pub mod Numbers
+pub mod Integers

@@ -1,0 +1,191 @@
+-- Laws of rows in a lent slice, as the code leaves them.
+use Prim.Native.Nat.{ℕ, _+_, _-_, _/_, _^_, _≤_, _<_}
+use mathlib.Core.Path.{_≡_, refl, sym, ap, ap₂, _∙_}
+use mathlib.Core.List.{List, [], _++_, append-assoc}
+use mathlib.Core.Bool.{Bool, true, false, cond, true≢false, false≢true}
+use native.Mathlib.Omega.{arith}
+use mir.Syntax.{w64}
+use mir.Val.{Fits}
+use borrow.Author.Tests.{eq-eqb, ne-eqb, lt-ltb, le-ltb, ltb-false}
+use lib.Dec.{eqb, ltb}
+use lib.IntN.{ℤ}
+use lib.ListN.{length, take, drop, length-append, take-append-drop}
+use lib.Seq.{paste, length-paste, take-paste, drop-paste, take-all, drop-drop}
+use Rattle.law.specs.Rows.{width}
+use Rattle.walk.specs.declared.Found.{Found}
+use Rattle.walk.specs.declared.Found.the-variants.{Row, Nothing, Refused}
+use Rattle.law.specs.declared.Reply.{Reply}
+use Rattle.walk.specs.declared.Walk.{Walk}
+use Rattle.walk.specs.declared.Turn.{Turn}
+use Rattle.law.specs.Answers.{limit, reply, over}
+use Rattle.walk.specs.Walks.{begun, turnOf, isRow, stopsBy, Steady, Trace, row, traceBy, traceAt}
+use Rattle.names.specs.Names.{repeatOf}
+use Rattle.read.specs.Replies.{survey, checkReply, rowsIn, rowsOf, placedAt, placeBehind, RowRoom, readReply, readRows}
+use Rattle.walk.proofs.WalkLaws.{Going, going-start, going-trace, going-less, going-more, going-end}
+use Rattle.read.proofs.RowWidths.{turn-wide, check-counts}
+
+-- one row in the slice, if the line has one
+module _ (rows : List ℤ) (at : ℕ) (t : Turn) (x : Bool) (e : x ≡ isRow (t .found)) where
+  pub place-room : RowRoom rows at t → x ≡ true → at + width ≤ length rows
+  place-room h i = h .fits (sym e ∙ i)
+
+  pub place-fits : RowRoom rows at t → x ≡ true → length rows < 2 ^ 64 → Fits w64 (at + 10)
+  place-fits h i k = omega (arith, place-room h i)
+
+  pub behind-row : x ≡ true → at + 10 ≡ placeBehind at t
+  unfolding placeBehind
+  behind-row i = rw (sym e ∙ i)
+
+  pub placed-row : (y : List ℤ) → x ≡ true → y ≡ paste rows at (t .row) width → y ≡ placedAt rows at t
+  unfolding placedAt
+  placed-row y i h = rw (sym e ∙ i) h
+
+  pub behind-none : x ≡ false → at ≡ placeBehind at t
+  unfolding placeBehind
+  behind-none i = rw (sym e ∙ i)
+
+  pub placed-none : x ≡ false → rows ≡ placedAt rows at t
+  unfolding placedAt
+  placed-none i = rw (sym e ∙ i)
+
+-- a slice whose front is written, and what is still to come over the rest of it
+over-none : (n : ℕ) (rows : List ℤ) → take n rows ++ over [] (drop n rows) ≡ rows
+over-none n rows = take-append-drop n rows
+
+over-more : (n k : ℕ) (x rest rows : List ℤ) → length x ≡ k → n + k ≤ length rows
+    → take n rows ++ over (x ++ rest) (drop n rows) ≡ take (n + k) (paste rows n x k) ++ over rest (drop (n + k) (paste rows n x k))
+over-more n k x rest rows hx hn =
+    let hd : n ≤ length rows = omega arith in
+    let hs : k ≤ length x = omega arith in
+    let hl : length x ≤ k = omega arith in
+    let e : n + length (x ++ rest) ≡ n + k + length rest = omega (arith, length-append x rest) in
+    let g : take n rows ++ over (x ++ rest) (drop n rows) ≡ (take n rows ++ x) ++ over rest (drop (n + k) rows) = simp (drop-drop, append-assoc, e) in
+    g ∙ ap₂ (λ (a b : List ℤ). a ++ over rest b) (sym (take-paste rows n x k hd hs ∙ ap (λ (y : List ℤ). take n rows ++ y) (take-all k x hl))) (sym (drop-paste rows n x k hd hs))
+
+pub record Placing (file : List ℕ) (old rows : List ℤ) (w : Walk) (at n : ℕ) : Type 0 where
+  pub going : Going file w at
+  pub long : length rows ≡ length old
+  pub fits : n + length (rowsIn (traceAt file w)) ≤ length rows
+  pub same : take n rows ++ over (rowsIn (traceAt file w)) (drop n rows) ≡ over (rowsOf file) old
+
+pub place-start : (file : List ℕ) (old : List ℤ) (w : Walk) → length file ≤ limit → length (rowsOf file) ≤ length old → w ≡ begun → Placing file old old w 0 0
+place-start file old w h k e = record { going = going-start file w h e; long = refl; fits = rw e (omega arith); same = rw e }
+
+-- the rows of a line and of those behind it
+module _ (l : ℕ) (r : List ℤ) (x : Trace) where
+  rows-stop : (f : Found) → stopsBy f ≡ true → rowsIn (traceBy f l r x) ≡ []
+  unfolding rowsIn
+  rows-stop Row h = absurd (false≢true h)
+  rows-stop Nothing h = absurd (false≢true h)
+  rows-stop (Refused n) h = refl
+
+  rows-row : (f : Found) → isRow f ≡ true → rowsIn (traceBy f l r x) ≡ r ++ rowsIn x
+  unfolding rowsIn
+  rows-row Row h = refl
+  rows-row Nothing h = absurd (false≢true h)
+  rows-row (Refused n) h = absurd (false≢true h)
+
+  rows-none : (f : Found) → stopsBy f ≡ false → isRow f ≡ false → rowsIn (traceBy f l r x) ≡ rowsIn x
+  unfolding rowsIn
+  rows-none Row g h = absurd (true≢false h)
+  rows-none Nothing g h = refl
+  rows-none (Refused n) g h = absurd (true≢false g)
+
+module _ (file : List ℕ) (old rows : List ℤ) (w : Walk) (at n : ℕ) (s : Placing file old rows w at n) where
+  pub place-steady : Steady file w
+  place-steady = s .going .steady
+
+  all-placed : rowsIn (traceAt file w) ≡ [] → rows ≡ over (rowsOf file) old
+  all-placed e = sym (over-none n rows) ∙ ap (λ (x : List ℤ). take n rows ++ over x (drop n rows)) (sym e) ∙ s .same
+
+  pub place-over : length file ≤ at → rows ≡ over (rowsOf file) old
+  unfolding rowsIn
+  place-over h = all-placed (ap rowsIn (going-end file w at (s .going) h))
+
+  module _ (h : at < length file) (t : Turn) (e : t ≡ turnOf file w) where
+    pub place-less : length file - t .walk .at < length file - at
+    place-less = going-less file w at (s .going) h t e
+
+    left : rowsIn (traceAt file w) ≡ rowsIn (traceBy (t .found) (w .line) (t .row) (traceAt file (t .walk)))
+    left = ap rowsIn (going-trace file w at (s .going) h t e)
+
+    wide : length (t .row) ≡ width
+    wide = rw e (turn-wide file w)
+
+    row-left : isRow (t .found) ≡ true → rowsIn (traceAt file w) ≡ t .row ++ rowsIn (traceAt file (t .walk))
+    row-left i = left ∙ rows-row (w .line) (t .row) (traceAt file (t .walk)) (t .found) i
+
+    row-room : isRow (t .found) ≡ true → n + width ≤ length rows
+    row-room i = let f = s .fits in omega (arith, ap length (row-left i), length-append (t .row) (rowsIn (traceAt file (t .walk))), wide)
+
+    pub turn-room : RowRoom rows n t
+    turn-room = record { fits = row-room }
+
+    module _ (y : Bool) (i : y ≡ stopsBy (t .found)) where
+      pub place-stop : y ≡ true → rows ≡ over (rowsOf file) old
+      place-stop j = all-placed (left ∙ rows-stop (w .line) (t .row) (traceAt file (t .walk)) (t .found) (sym i ∙ j))
+
+      with-row : isRow (t .found) ≡ true → Placing file old (paste rows n (t .row) width) (t .walk) (t .walk .at) (n + width)
+      with-row k =
+          let m : width ≤ length (t .row) = omega (arith, wide) in
+          let p : length (paste rows n (t .row) width) ≡ length rows = length-paste rows n (t .row) width (row-room k) m in
+          record {
+            going = going-more file w at (s .going) h t e;
+            long = p ∙ s .long;
+            fits = omega (arith, p, s .fits, ap length (row-left k), length-append (t .row) (rowsIn (traceAt file (t .walk))), wide);
+            same = sym (over-more n width (t .row) (rowsIn (traceAt file (t .walk))) rows wide (row-room k))
+                ∙ ap (λ (x : List ℤ). take n rows ++ over x (drop n rows)) (sym (row-left k))
+                ∙ s .same;
+          }
+
+      with-none : y ≡ false → isRow (t .found) ≡ false → Placing file old rows (t .walk) (t .walk .at) n
+      with-none j k =
+          let q : rowsIn (traceAt file w) ≡ rowsIn (traceAt file (t .walk)) = left ∙ rows-none (w .line) (t .row) (traceAt file (t .walk)) (t .found) (sym i ∙ j) k in
+          record { going = going-more file w at (s .going) h t e; long = s .long; fits = rw q at (s .fits); same = rw q at (s .same) }
+
+      pub place-more : (m : ℕ) (next : List ℤ) → y ≡ false → m ≡ placeBehind n t → next ≡ placedAt rows n t → Placing file old next (t .walk) (t .walk .at) m
+      unfolding placeBehind placedAt
+      place-more m next j a b = rw (a, b) (go (isRow (t .found)) refl)
+        where
+          go : (x : Bool) → isRow (t .found) ≡ x → Placing file old (cond x (paste rows n (t .row) width) rows) (t .walk) (t .walk .at) (cond x (n + width) n)
+          go true k = with-row k
+          go false k = with-none j k
+
+-- reading: the check, then the room, then the rows
+module _ (file : List ℕ) (rows : List ℤ) (c : Reply) (e : c ≡ checkReply file) where
+  pub read-refused : (c .number ≡ 0 → ⊥) → c ≡ readReply file (length rows)
+  unfolding readReply
+  read-refused h = rw (sym e, ne-eqb (c .number) 0 h)
+
+  pub kept-refused : (c .number ≡ 0 → ⊥) → rows ≡ readRows file rows
+  unfolding readRows
+  kept-refused h = rw (sym (read-refused h), ne-eqb (c .number) 0 h)
+
+  module _ (h : c .number ≡ 0) where
+    pub read-small : length file ≤ limit
+    unfolding checkReply
+    read-small = go (ltb limit (length file)) refl (ap (λ (x : Reply). x .number) (sym e) ∙ h)
+      where
+        go : (b : Bool) → ltb limit (length file) ≡ b → cond b (reply 1 0 0) (cond (eqb (repeatOf file) 0) (survey file) (reply 12 (repeatOf file) 0)) .number ≡ 0 → length file ≤ limit
+        go true i k = absurd (omega arith)
+        go false i k = ltb-false limit (length file) i
+
+    pub read-short : length rows / 10 < c .count → reply 2 0 (c .count) ≡ readReply file (length rows)
+    unfolding readReply
+    read-short i = rw (sym e, eq-eqb (c .number) 0 h, lt-ltb (length rows / width) (c .count) i)
+
+    pub kept-short : length rows / 10 < c .count → rows ≡ readRows file rows
+    unfolding readRows
+    kept-short i = rw (sym (read-short i))
+
+    module _ (i : c .count ≤ length rows / 10) where
+      pub read-room : length (rowsOf file) ≤ length rows
+      read-room = let k = check-counts file c e h in omega arith
+
+      pub read-whole : c ≡ readReply file (length rows)
+      unfolding readReply
+      read-whole = rw (sym e, eq-eqb (c .number) 0 h, le-ltb (length rows / width) (c .count) i)
+
+      pub put-whole : (y : List ℤ) → y ≡ over (rowsOf file) rows → y ≡ readRows file rows
+      unfolding readRows
+      put-whole y k = rw (sym read-whole, eq-eqb (c .number) 0 h) k

@@ -1,0 +1,59 @@
+// Rows into a lent slice.
+use line_rows::WIDTH;
+use walk::Turn;
+use walk::steps;
+ghost use mathlib.Core.Path.{_≡_};
+ghost use Prim.Native.Nat.{_+_, _≤_};
+ghost use lib.ListN.{length};
+ghost use lib.Seq.{paste};
+ghost use Rattle.law.specs.Rows.{width};
+ghost use Rattle.law.specs.Answers.{limit, over};
+ghost use Rattle.read.specs.Replies.{placedAt, placeBehind, rowsOf, RowRoom};
+
+// One row into the slice, from a place on.
+pub fn put_row(rows: &mut [i64], at: usize, row: [i64; WIDTH])
+    requires { ⌜ at + width ≤ length (now rows) ⌝ }
+    ensures { λ _. ⌜ now (rows .exit) ≡ paste (now (rows .entry)) at row width ⌝ }
+{
+    let mut i = 0;
+    while i < WIDTH {
+        let x = row[i];
+        rows[at + i] = x;
+        i += 1;
+    }
+}
+
+// The row of a line, if it has one; answers the place behind it.
+fn put_turn(rows: &mut [i64], at: usize, t: Turn) -> usize
+    requires { ⌜ RowRoom (now rows) at t ⌝ }
+    ensures { λ r. ⌜ r ≡ placeBehind at t ⌝ }
+    ensures { λ _. ⌜ now (rows .exit) ≡ placedAt (now (rows .entry)) at t ⌝ }
+{
+    let found = t.found;
+    let row = t.row;
+    if steps::is_row(found) {
+        put_row(rows, at, row);
+        return at + WIDTH;
+    }
+    at
+}
+
+// All rows of a file, from the front of the slice on.
+pub fn put_rows(file: &[u8], rows: &mut [i64])
+    requires { ⌜ (length (now file) ≤ limit) × (length (rowsOf (now file)) ≤ length (now rows)) ⌝ }
+    ensures { λ _. ⌜ now (rows .exit) ≡ over (rowsOf (now (file .entry))) (now (rows .entry)) ⌝ }
+{
+    let mut w = steps::begin();
+    let mut at = 0;
+    let mut n = 0;
+    while at < file.len() {
+        let t = steps::turn(file, w);
+        let found = t.found;
+        if steps::stops(found) {
+            return;
+        }
+        n = put_turn(rows, n, t);
+        w = t.walk;
+        at = w.at;
+    }
+}

@@ -1,3 +1,0 @@
-// Whole files: the two entry points `check` and `read`.
-pub mod rows;
-pub mod whole;

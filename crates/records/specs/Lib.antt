@@ -1,5 +1,0 @@
-pub mod Marks
-pub mod Stages
-pub mod Places
-pub mod Automaton
-pub mod Answers

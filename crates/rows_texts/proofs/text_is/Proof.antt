@@ -1,0 +1,21 @@
+-- `rows_texts::text_is` meets its contract. Assumes nothing.
+use borrow.Author.Needs.{needs}
+use Rattle.rows_texts.proofs.TextLaws.{text-by}
+use Rattle.rows_texts.proofs.text_is.Statement.{statement}
+use Rattle.rows_texts.proofs.text_is.Tie as tie
+
+ruleset laws = (text-by, needs)
+
+text-requires : tie.Need-text-requires
+text-requires c κs = search laws
+
+same-requires : tie.Need-same-requires
+same-requires c κs = search laws
+
+returns : tie.Need-returns
+returns c = search laws
+
+pub text-is-spec : {M : Type 1} → statement M
+text-is-spec =
+    tie.close
+    (tie.spec text-requires same-requires returns)

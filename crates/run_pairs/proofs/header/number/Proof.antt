@@ -1,0 +1,37 @@
+-- `run_pairs::header::number` meets its contract: each step leaves a number below 10,000,000. Assumes nothing.
+use Prim.Native.Nat.{_-_, _<_}
+use borrow.Author.Needs.{needs}
+use Rattle.run_pairs.proofs.header.number.Statement.{statement}
+use Rattle.run_pairs.proofs.header.number.Tie as tie
+
+abbrev Inv-loop : tie.InvT-loop
+Inv-loop head from to n₀ i₀ n i = n < 10000000
+
+abbrev μ-loop : tie.MeasureT-loop
+μ-loop head from to n₀ i₀ n i = to - i
+
+loop-holds : tie.Need-loop-holds Inv-loop μ-loop
+loop-holds c = search needs
+
+element-copy-out-longer : tie.Need-element-copy-out-longer Inv-loop μ-loop
+element-copy-out-longer c = search needs
+
+longer-requires : tie.Need-longer-requires Inv-loop μ-loop
+longer-requires c κs = search needs
+
+add-i : tie.Need-add-i Inv-loop μ-loop
+add-i c = search needs
+
+loop-less : tie.Need-loop-less Inv-loop μ-loop
+loop-less c = search needs
+
+loop-again : tie.Need-loop-again Inv-loop μ-loop
+loop-again c = search needs
+
+returns : tie.Need-returns Inv-loop μ-loop
+returns c = search needs
+
+pub number-spec : {M : Type 1} → statement M
+number-spec =
+    tie.close
+    (tie.spec Inv-loop μ-loop loop-holds element-copy-out-longer longer-requires add-i loop-less loop-again returns)

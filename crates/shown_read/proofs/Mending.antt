@@ -1,0 +1,94 @@
+-- Lines that are read through begin a file that says a permitted list: the canonical lines of the records that are still needed end it.
+use Prim.Native.Nat.{ℕ, zero, suc}
+use mathlib.Core.Path.{_≡_, refl}
+use mathlib.Core.List.{List, [], _∷_, _++_}
+use mathlib.Core.Bool.{Bool, true, false, not, false≢true}
+use borrow.Author.Tests.{eqb-true}
+use lib.Dec.{eqb}
+use lib.ListN.{take}
+use Rattle.law.specs.Bytes.{permitted, inLine, All}
+use Rattle.law.specs.Lines.{File, none, last, next}
+use Rattle.law.specs.Values.{Rec}
+use Rattle.law.specs.Fits.{under, WellFormed}
+use Rattle.law.specs.declared.Rules.{Rules}
+use Rattle.law.specs.declared.Context.{Context}
+use Rattle.law.specs.declared.FileType.{FileType}
+use Rattle.order.specs.Automaton.{start}
+use Rattle.order.specs.declared.State.{State}
+use Rattle.shown_lists.proofs.FirstLine.{through-viable}
+use Rattle.law.specs.RecordSpelling.{SpellsRecord, asLine}
+use Rattle.law.specs.Canonical.{canonicalRecord}
+use Rattle.law.specs.LineSpelling.{Where, SpellsLines, end, line}
+use Rattle.shown_spelling.proofs.BareBytes.{all-map}
+use Rattle.shown_spelling.proofs.LineSpelling.{line-first}
+use Rattle.shown_spelling.proofs.CanonicalLines.{canonical-spells}
+use Rattle.law.specs.Files.{titled, Mendable}
+use Rattle.shown_read.proofs.WellFormedLists as every
+use Rattle.shown_read.proofs.WellFormedLists.{Every, every-rest, permitted-fit}
+use Rattle.shown_read.proofs.Readings.{Through}
+use Rattle.shown_read.proofs.ToldSound.{through-runs, through-spells}
+
+-- lines of which none holds byte 10: those of a file, and a file can be made of them
+pub data Lines : List (List ℕ) → Type 0 where
+  no-line : Lines []
+  and-line : {l : List ℕ} {ls : List (List ℕ)} → All inLine l → Lines ls → Lines (l ∷ ls)
+
+pub file-lines : {ls : List (List ℕ)} {file : List ℕ} → File ls file → Lines ls
+file-lines none = no-line
+file-lines (last a) = and-line a no-line
+file-lines (next a f) = and-line a (file-lines f)
+
+lines-file : {ls : List (List ℕ)} → Lines ls → (file : List ℕ) × File ls file
+lines-file no-line = ([], none)
+lines-file (and-line {l} a m) = let w = lines-file m in (l ++ (10 ∷ w .0), next a (w .1))
+
+lines-append : {ls ms : List (List ℕ)} → Lines ls → Lines ms → Lines (ls ++ ms)
+lines-append no-line b = b
+lines-append (and-line a m) b = and-line a (lines-append m b)
+
+pub lines-take : {ls : List (List ℕ)} (i : ℕ) → Lines ls → Lines (take i ls)
+lines-take zero m = no-line
+lines-take (suc i) no-line = no-line
+lines-take (suc i) (and-line a m) = and-line a (lines-take i m)
+
+-- permitted bytes end no line
+permitted-in : (b : ℕ) → permitted b ≡ true → inLine b ≡ true
+unfolding permitted
+permitted-in b h = go (eqb b 10) refl
+  where
+    go : (t : Bool) → eqb b 10 ≡ t → not t ≡ true
+    go true e = absurd (false≢true (rw (eqb-true b 10 e) at h))
+    go false e = refl
+
+spelled-in : {c : Context} {r : Rec} {l : List ℕ} → SpellsRecord c r l → All inLine l
+spelled-in (asLine e p) = all-map permitted-in (line-first p .clean)
+
+module _ (v : Rules) where
+  abbrev pub canonicalLines : List Rec → List (List ℕ)
+  canonicalLines [] = []
+  canonicalLines (r ∷ rs) = canonicalRecord v r ∷ canonicalLines rs
+
+  module _ (u : FileType) where
+    pub canonical-lines : {rs : List Rec} → Every (λ r. WellFormed (under v u) r) rs → Lines (canonicalLines rs)
+    canonical-lines every.none = no-line
+    canonical-lines (every.one {r} h f) = and-line (spelled-in (canonical-spells (under v u) r h)) (canonical-lines f)
+
+    pub canonical-spell : {rs : List Rec} {w : Where} → Every (λ r. WellFormed (under v u) r) rs → SpellsLines (under v u) w rs (canonicalLines rs)
+    canonical-spell every.none = end
+    canonical-spell (every.one {r} h f) = line (canonical-spells (under v u) r h) (canonical-spell f)
+
+  pub through-mendable : {ls : List (List ℕ)} {rs : List Rec} {en : State} → Lines ls → Through v [] start ls rs en → Mendable v ls
+  through-mendable {ls} {rs} {en} h k =
+      let w = through-viable v rs en (through-runs v k) in
+      let qs = w .0 in
+      let u = titled (rs ++ qs) in
+      let f = permitted-fit (w .1) in
+      let g = every-rest rs f in
+      let made = lines-file (lines-append h (canonical-lines u g)) in
+      record {
+        more = canonicalLines qs;
+        records = rs ++ qs;
+        file = made .0;
+        made = made .1;
+        say = record { spelled = through-spells v u k f (canonical-spell u g); permitted = w .1; distinct = w .2 };
+      }

@@ -1,0 +1,63 @@
+-- A line that spells a record in a file of one type spells it in a file of any type in which the record is well formed.
+use Prim.Native.Nat.{ℕ}
+use mathlib.Core.Path.{_≡_, refl, sym, _∙_}
+use mathlib.Core.List.{List}
+use mathlib.Core.Bool.{Bool, true, false}
+use lib.Dec.{leb}
+use lib.IntN.{natAbs}
+use borrow.Author.Tests.{not-true}
+use Rattle.law.specs.Fields.{Field}
+use Rattle.law.specs.Limits.{largestLength}
+use Rattle.law.specs.Values.{Value, Rec}
+use Rattle.law.specs.Kinds.{part, unknown, roleOf}
+use Rattle.law.specs.Layouts.{Front}
+use Rattle.law.specs.Fits.{under, kept, meaning, goodText, fits, fitsAll, wellFormed, WellFormed}
+use Rattle.law.specs.declared.Rules.{Rules}
+use Rattle.law.specs.declared.FileType.{FileType}
+use Rattle.law.specs.declared.FieldType.{FieldType}
+use Rattle.law.specs.declared.FieldType.the-variants.{Reference as Ref}
+use Rattle.order.specs.Automaton.{isRole}
+use Rattle.shown_lists.proofs.Basics.{both}
+use Rattle.shown_lists.proofs.Roles.{isRole-true}
+use Rattle.shown_lists.proofs.Tables.{unlaid}
+use Rattle.shown_lists.proofs.Samples.{retype}
+use Rattle.law.specs.RecordSpelling.{SpellsField, asText, asReference, asDate, asInteger, asNumber, asWord, SpellsFields, none as noFields, more, SpellsLine, withKeyword, withProp, asData, SpellsRecord, asLine}
+use Rattle.shown_spelling.proofs.Logic.{none-some}
+use Rattle.shown_spelling.proofs.RecordSpelling.{record-fits}
+
+module _ {v : Rules} {a : FileType} (b : FileType) where
+  -- only a reference depends on the file's type, and what is well formed holds none that is barred
+  field-again : {t : FieldType} {x : Value} {f : Field} → SpellsField (under v a) t x f → fits (under v b) t x ≡ true → SpellsField (under v b) t x f
+  unfolding fits kept
+  field-again asText h = asText
+  field-again (asReference {s = s} e) h = asReference (not-true _ (both (goodText Ref (meaning Ref s)) _ h .1))
+  field-again (asDate r) h = asDate r
+  field-again (asInteger r) h = asInteger r
+  field-again (asNumber {z = z} r e) h = asNumber r (both (leb (natAbs z) largestLength) _ h .1)
+  field-again (asWord r) h = asWord r
+
+  fields-again : {ts : List FieldType} {xs : List Value} {fs : List Field} → SpellsFields (under v a) ts xs fs → fitsAll (under v b) ts xs ≡ true → SpellsFields (under v b) ts xs fs
+  unfolding fitsAll
+  fields-again noFields h = noFields
+  fields-again (more {t = t} {v = x} p r) h = let w = both (fits (under v b) t x) _ h in more (field-again p (w .0)) (fields-again r (w .1))
+
+  line-again : {f : Front} {ts : List FieldType} {xs : List Value} {s : List ℕ} → SpellsLine (under v a) f ts xs s → fitsAll (under v b) ts xs ≡ true → SpellsLine (under v b) f ts xs s
+  line-again (withKeyword m r p c) h = withKeyword m (fields-again r h) p c
+  line-again (withProp e r p c) h = withProp e (fields-again r h) p c
+  line-again (asData d e r p c) h = asData d e (fields-again r h) p c
+
+  pub spelled-again : {r : Rec} {l : List ℕ} → SpellsRecord (under v a) r l → WellFormed (under v b) r → SpellsRecord (under v b) r l
+  unfolding wellFormed
+  spelled-again (asLine e p) h = asLine e (line-again p (rw e at h))
+
+spelled-known : {v : Rules} {a : FileType} {r : Rec} {l : List ℕ} → SpellsRecord (under v a) r l → isRole (roleOf v (r .kind)) unknown ≡ false
+spelled-known {v} {r = r} (asLine e p) = go (isRole (roleOf v (r .kind)) unknown) refl
+  where
+    go : (b : Bool) → isRole (roleOf v (r .kind)) unknown ≡ b → b ≡ false
+    go true i = absurd (none-some (sym (unlaid v (r .kind) (isRole-true _ _ i)) ∙ e))
+    go false i = refl
+
+-- so a line of any role but a part's, and with it the whole header, is spelled the same in every file
+pub spelled-any : {v : Rules} {a : FileType} (b : FileType) {r : Rec} {l : List ℕ} → isRole (roleOf v (r .kind)) part ≡ false → SpellsRecord (under v a) r l
+    → SpellsRecord (under v b) r l
+spelled-any {v} b h p = spelled-again b p (retype v b (spelled-known p) h (record { in-section = refl; has-role = refl; is-good = record-fits p }) .is-good)

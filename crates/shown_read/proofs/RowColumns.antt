@@ -1,0 +1,134 @@
+-- A row's columns beside the values that they mean: the point in the row of a point line, the file's type in that of a title line, a component's name in that of a leading line.
+use Prim.Native.Nat.{ℕ, zero, suc, _≤_}
+use mathlib.Core.Path.{_≡_, refl}
+use mathlib.Core.List.{List, [], _∷_, _++_}
+use mathlib.Core.Bool.{Bool, true, false, not, _&&_, _||_, false≢true}
+use native.Mathlib.Omega.{arith}
+use borrow.Author.Tests.{leb-true}
+use lib.Dec.{leb}
+use lib.IntN.{ℤ, pos}
+use lib.ListN.{getD, replicate}
+use Rattle.law.specs.Values.{Value, word, Rec}
+use Rattle.law.specs.Sections.{sections}
+use Rattle.law.specs.Kinds.{sectionOf, lineOf, title, point, roleOf}
+use Rattle.law.specs.Layouts.{layoutOf, typesOf}
+use Rattle.law.specs.Fits.{meaning}
+use Rattle.law.specs.declared.Rules.{Rules}
+use Rattle.law.specs.declared.Rules.the-variants.{Idf3}
+use Rattle.law.specs.declared.FieldType.{FieldType}
+use Rattle.law.specs.declared.FieldType.the-variants.{Text as T, Reference as Ref, Date as D, Integer as I, Number as N, Word as W}
+use Rattle.law.specs.Rows.{isNumber, isText, Means, none, aNumber, aWord, aDate, aText, Holds}
+use Rattle.line_rows.proofs.MeaningLaws.{not-both as number-no-text}
+use Rattle.law.specs.Records.{numOf, wordOf, bytesOf, typeIn, Named, namesAComponent, nameIn}
+use Rattle.order.specs.Marks.{pointOf}
+use Rattle.order_loops.specs.Loops.{eqZ}
+use Rattle.order.specs.Automaton.{isRole}
+use Rattle.shown_lists.proofs.Basics.{other, at-each, both}
+use Rattle.shown_lists.proofs.Tables.{component-fields}
+use Rattle.walk.specs.Judging.{columnAt, pointIn, typeInRow}
+use Rattle.rows_texts.specs.Texts.{textAt}
+use Rattle.names.specs.Names.{leadsComponent}
+
+-- the component in the row of a leading line: the texts of its first two fields
+abbrev pub nameAt : List ℕ → List ℤ → Named
+nameAt file x = record { geometry = textAt file (columnAt x 1) (columnAt x 2); number = textAt file (columnAt x 3) (columnAt x 4) }
+
+-- What the types in front of a layout are
+
+-- those up to number n are of numbers
+abbrev numbersTo : ℕ → List FieldType → Bool
+numbersTo n [] = false
+numbersTo zero (t ∷ ts) = isNumber t
+numbersTo (suc n) (t ∷ ts) = isNumber t && numbersTo n ts
+
+number-first : (n : ℕ) (t : FieldType) (ts : List FieldType) → numbersTo n (t ∷ ts) ≡ true → isNumber t ≡ true
+number-first zero t ts h = h
+number-first (suc n) t ts h = both (isNumber t) (numbersTo n ts) h .0
+
+abbrev isWord : FieldType → Bool
+isWord T = false
+isWord Ref = false
+isWord D = false
+isWord I = false
+isWord (N l) = false
+isWord (W l) = true
+
+abbrev wordFirst : List FieldType → Bool
+wordFirst [] = false
+wordFirst (t ∷ ts) = isWord t
+
+word-alone : (t : FieldType) → isWord t ≡ true → (isNumber t ≡ true → ⊥) × (isText t ≡ true → ⊥)
+word-alone T h = absurd (false≢true h)
+word-alone Ref h = absurd (false≢true h)
+word-alone D h = absurd (false≢true h)
+word-alone I h = absurd (false≢true h)
+word-alone (N l) h = absurd (false≢true h)
+word-alone (W l) h = (λ i. false≢true i, λ i. false≢true i)
+
+-- a point is four numbers, and a title begins with a word
+abbrev asked : Rules → ℕ → Bool
+asked v k = (not (isRole (roleOf v k) point) || numbersTo 3 (typesOf v k)) && (not (isRole (roleOf v k) title) || wordFirst (typesOf v k))
+
+as-asked : (v : Rules) (k : ℕ) → asked v k ≡ true
+unfolding roleOf typesOf layoutOf sectionOf lineOf sections
+as-asked Idf3 k = go (leb k 159) refl
+  where
+    go : (b : Bool) → leb k 159 ≡ b → asked Idf3 k ≡ true
+    go true e = at-each (asked Idf3) 160 k refl (omega (arith, leb-true k 159 e))
+    go false e = rw e
+
+point-numbers : (v : Rules) (k : ℕ) → isRole (roleOf v k) point ≡ true → numbersTo 3 (typesOf v k) ≡ true
+point-numbers v k e = other (not (isRole (roleOf v k) point)) _ (rw e) (both (not (isRole (roleOf v k) point) || numbersTo 3 (typesOf v k)) _ (as-asked v k) .0)
+
+title-word : (v : Rules) (k : ℕ) → isRole (roleOf v k) title ≡ true → wordFirst (typesOf v k) ≡ true
+title-word v k e = other (not (isRole (roleOf v k) title)) _ (rw e) (both (not (isRole (roleOf v k) point) || numbersTo 3 (typesOf v k)) _ (as-asked v k) .1)
+
+-- Columns in front of zs, and the values that they mean
+module _ {file : List ℕ} (zs : List ℤ) where
+  number-column : {ts : List FieldType} {cs : List ℤ} {vs : List Value} → Means file ts cs vs → (n i : ℕ) → i ≤ n → numbersTo n ts ≡ true
+      → getD (cs ++ zs) i (pos 0) ≡ numOf (getD vs i (word 0))
+  number-column none n i h e = absurd (false≢true e)
+  number-column (aNumber k m) n zero h e = refl
+  number-column (aNumber k m) zero (suc i) h e = absurd (omega arith)
+  number-column (aNumber {t = t} {ts = ts} k m) (suc n) (suc i) h e = number-column m n i (omega arith) (both (isNumber t) (numbersTo n ts) e .1)
+  number-column (aWord {l = l} {ts = ts} m) n i h e = absurd (false≢true (number-first n (W l) ts e))
+  number-column (aDate {ts = ts} j m) n i h e = absurd (false≢true (number-first n D ts e))
+  number-column (aText {t = t} {ts = ts} k j m) n i h e = absurd (number-no-text t (number-first n t ts e) k)
+
+  word-column : {ts : List FieldType} {cs : List ℤ} {vs : List Value} → Means file ts cs vs → wordFirst ts ≡ true → getD (cs ++ zs) 0 (pos 0) ≡ pos (wordOf (getD vs 0 (word 0)))
+  word-column none e = absurd (false≢true e)
+  word-column (aNumber {t = t} k m) e = absurd (word-alone t e .0 k)
+  word-column (aWord m) e = refl
+  word-column (aDate j m) e = absurd (false≢true e)
+  word-column (aText {t = t} k j m) e = absurd (word-alone t e .1 k)
+
+  name-columns : {ts : List FieldType} {cs : List ℤ} {vs : List Value} → Means file (T ∷ T ∷ ts) cs vs
+      → nameAt file (pos 0 ∷ (cs ++ zs)) ≡ record { geometry = bytesOf (getD vs 0 (word 0)); number = bytesOf (getD vs 1 (word 0)) }
+  unfolding meaning
+  name-columns (aNumber h m) = absurd (false≢true h)
+  name-columns (aText h j (aNumber i m)) = absurd (false≢true i)
+  name-columns (aText h j (aText i l m)) = refl
+
+-- What a row says of its record
+module _ (file : List ℕ) (v : Rules) (k : ℕ) (row : List ℤ) (vs : List Value) (h : Holds file k (typesOf v k) row vs) where
+  abbrev its : Rec
+  its = record { kind = k; values = vs }
+
+  pub point-in : isRole (roleOf v k) point ≡ true → pointIn row ≡ pointOf its
+  point-in e =
+      let m = h .means in
+      let n = point-numbers v k e in
+      let z = replicate (h .left) (pos 0) in
+      rw (h .is, number-column z m 3 0 (omega arith) n, number-column z m 3 1 (omega arith) n, number-column z m 3 2 (omega arith) n, number-column z m 3 3 (omega arith) n)
+
+  pub type-in : isRole (roleOf v k) title ≡ true → typeInRow row ≡ typeIn its
+  unfolding eqZ
+  type-in e = rw (h .is, word-column (replicate (h .left) (pos 0)) (h .means) (title-word v k e))
+
+  pub name-in : namesAComponent v k ≡ true → nameAt file row ≡ nameIn its
+  name-in e = let c = component-fields v k e in rw (h .is) (name-columns (replicate (h .left) (pos 0)) (rw (c .1) at (h .means)))
+
+-- the kind in front says whether a row names a component
+pub names-is : (file : List ℕ) (v : Rules) (k : ℕ) (row : List ℤ) (vs : List Value) → Holds file k (typesOf v k) row vs → leadsComponent row ≡ namesAComponent v k
+unfolding eqZ namesAComponent
+names-is file Idf3 k row vs h = rw (h .is)

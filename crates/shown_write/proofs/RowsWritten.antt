@@ -1,0 +1,166 @@
+-- Rows are written exactly if they mean a list that a file may say, and what is written is the canonical text of that list.
+use Prim.Native.Nat.{ℕ, _+_, _≤_, _<_}
+use mathlib.Core.Path.{_≡_, refl, ap, _∙_}
+use mathlib.Core.Logic.{_↔_}
+use mathlib.Core.List.{List, _++_}
+use mathlib.Core.Bool.{Bool, true, false, cond, not, _&&_}
+use native.Mathlib.Omega.{arith}
+use borrow.Author.Tests.{not-true, ltb-false, lt-ltb, le-ltb, ne-eqb}
+use lib.Dec.{ltb, eqb}
+use lib.IntN.{ℤ}
+use lib.ListN.{length, drop}
+use lib.Seq.{sets, sets-eq}
+use Rattle.text.proofs.Lists.{and-left, and-right}
+use Rattle.law.specs.Values.{Rec}
+use Rattle.law.specs.declared.Rules.the-variants.{Idf3}
+use Rattle.order.specs.Automaton.{start}
+use Rattle.shown_lists.proofs.Sound.{accepted-permitted}
+use Rattle.shown_lists.proofs.Complete.{permitted-accepted}
+use Rattle.law.specs.Answers.{limit, reply}
+use Rattle.law.specs.declared.Reply.{Reply}
+use Rattle.write.specs.WholeRows.{wholeRows}
+use Rattle.write.specs.Writable.{carries, twice, writable}
+use Rattle.write.specs.Outcomes.{textOf, sizedReply, writeReply, writeText}
+use Rattle.law.specs.Rows.{RowsMean, whole, RowsSay}
+use Rattle.shown_read.proofs.RowsTold.{rows-one}
+use Rattle.law.specs.Canonical.{canonicalText}
+use Rattle.shown_write.proofs.WholeRows.{list-text, whole-wide, whole-list, list-whole}
+use Rattle.shown_write.proofs.RowsCarried.{carries-iff}
+use Rattle.shown_write.proofs.NamedOnce.{once-iff}
+
+-- in front of what it does not cover
+abbrev before : List ℕ → List ℕ → List ℕ
+before text old = text ++ drop (length text) old
+
+-- the answers for a text that is written, by two tests of its length n
+abbrev sizedBy : Bool → Bool → ℕ → Reply
+sizedBy a b n = cond a (reply 1 0 0) (cond b (reply 14 0 n) (reply 0 0 n))
+
+sized-not-15 : (n room : ℕ) → sizedReply n room .number ≡ 15 → ⊥
+sized-not-15 n room = go (ltb limit n) (ltb room n)
+  where
+    go : (a b : Bool) → sizedBy a b n .number ≡ 15 → ⊥
+    go true b h = omega arith
+    go false true h = omega arith
+    go false false h = omega arith
+
+sized-zero : (n room : ℕ) → sizedReply n room .number ≡ 0 → (n ≤ limit) × (n ≤ room)
+sized-zero n room = go (ltb limit n) (ltb room n) refl refl
+  where
+    go : (a b : Bool) → ltb limit n ≡ a → ltb room n ≡ b → sizedBy a b n .number ≡ 0 → (n ≤ limit) × (n ≤ room)
+    go true b x y h = absurd (omega arith)
+    go false true x y h = absurd (omega arith)
+    go false false x y h = (ltb-false limit n x, ltb-false room n y)
+
+sized-covers : (text old : List ℕ)
+    → cond (eqb (sizedReply (length text) (length old) .number) 0) (sets old 0 text) old ≡ cond (eqb (sizedReply (length text) (length old) .number) 0) (before text old) old
+sized-covers text old = go (ltb limit (length text)) (ltb (length old) (length text)) refl
+  where
+    go : (a b : Bool) → ltb (length old) (length text) ≡ b
+        → cond (eqb (sizedBy a b (length text) .number) 0) (sets old 0 text) old ≡ cond (eqb (sizedBy a b (length text) .number) 0) (before text old) old
+    go true b e = refl
+    go false true e = refl
+    go false false e =
+        let h : 0 + length text ≤ length old = omega (arith, ltb-false (length old) (length text) e) in
+        let z : 0 + length text ≡ length text = omega arith in
+        sets-eq text old 0 h ∙ ap (λ (k : ℕ). text ++ drop k old) z
+
+module _ (rows : List ℤ) (bytes : List ℕ) where
+  -- a slice means one list at most
+  pub say-one : {rs qs : List Rec} → RowsSay bytes rs rows → RowsSay bytes qs rows → rs ≡ qs
+  say-one a b = rows-one (a .means) (b .means)
+
+  pub writable-iff : (writable Idf3 bytes (wholeRows rows) ≡ true) ↔ ((rs : List Rec) × RowsSay bytes rs rows)
+  unfolding writable
+  writable-iff = (says, may)
+    where
+      xs : List (List ℤ)
+      xs = wholeRows rows
+
+      says : (carries Idf3 bytes start xs && not (twice bytes xs)) ≡ true → (rs : List Rec) × RowsSay bytes rs rows
+      says h =
+          let p = carries-iff Idf3 bytes xs start (whole-wide rows) .0 (and-left (carries Idf3 bytes start xs) _ h) in
+          let t = not-true (twice bytes xs) (and-right (carries Idf3 bytes start xs) _ h) in
+          (p .0, record { means = list-whole bytes rows (p .1); permitted = accepted-permitted Idf3 (p .0) (p .2); distinct = once-iff Idf3 bytes (p .1) .0 t })
+
+      may : (rs : List Rec) × RowsSay bytes rs rows → (carries Idf3 bytes start xs && not (twice bytes xs)) ≡ true
+      may (rs, s) =
+          let m = whole-list bytes rows (s .means) in
+          let c = carries-iff Idf3 bytes xs start (whole-wide rows) .1 (rs, m, permitted-accepted Idf3 (s .permitted)) in
+          rw (c, once-iff Idf3 bytes m .1 (s .distinct))
+
+  module _ (room : ℕ) where
+    -- 15 exactly where the rows mean no list that a file may say
+    pub unwritable-iff : (writeReply rows bytes room .number ≡ 15) ↔ (((rs : List Rec) × RowsSay bytes rs rows) → ⊥)
+    unfolding writeReply
+    unwritable-iff = (λ e s. sized-not-15 n room (rw (writable-iff .1 s) at e), λ d. go (writable Idf3 bytes (wholeRows rows)) refl d)
+      where
+        n : ℕ
+        n = length (textOf Idf3 bytes (wholeRows rows))
+
+        go : (b : Bool) → writable Idf3 bytes (wholeRows rows) ≡ b → (((rs : List Rec) × RowsSay bytes rs rows) → ⊥)
+            → cond b (sizedReply n room) (reply 15 0 0) .number ≡ 15
+        go true e d = absurd (d (writable-iff .0 e))
+        go false e d = refl
+
+    -- and then the whole answer is 15
+    pub unwritable-reply : (((rs : List Rec) × RowsSay bytes rs rows) → ⊥) → writeReply rows bytes room ≡ reply 15 0 0
+    unfolding writeReply
+    unwritable-reply d = go (writable Idf3 bytes (wholeRows rows)) refl
+      where
+        go : (b : Bool) → writable Idf3 bytes (wholeRows rows) ≡ b → cond b (sizedReply (length (textOf Idf3 bytes (wholeRows rows))) room) (reply 15 0 0) ≡ reply 15 0 0
+        go true e = absurd (d (writable-iff .0 e))
+        go false e = refl
+
+  -- whatever the refusal
+  pub untouched : (old : List ℕ) → (writeReply rows bytes (length old) .number ≡ 0 → ⊥) → writeText rows bytes old ≡ old
+  unfolding writeText
+  untouched old h = rw (ne-eqb (writeReply rows bytes (length old) .number) 0 h)
+
+  -- rows that mean a list have its canonical text
+  pub text-is : {rs : List Rec} → RowsMean bytes rs (whole rows) → textOf Idf3 bytes (wholeRows rows) ≡ canonicalText Idf3 rs
+  text-is m = list-text Idf3 bytes (whole-list bytes rows m)
+
+  module _ {rs : List Rec} (s : RowsSay bytes rs rows) where
+    pub written-reply : (room : ℕ) → writeReply rows bytes room ≡ sizedReply (length (canonicalText Idf3 rs)) room
+    unfolding writeReply
+    written-reply room = rw (writable-iff .1 (rs, s), text-is (s .means))
+
+    -- the text in front of what it does not cover; on a refusal what was there
+    pub written-text : (old : List ℕ)
+        → writeText rows bytes old ≡ cond (eqb (sizedReply (length (canonicalText Idf3 rs)) (length old) .number) 0) (canonicalText Idf3 rs ++ drop (length (canonicalText Idf3 rs)) old) old
+    unfolding writeText
+    written-text old = rw (written-reply (length old), text-is (s .means)) (sized-covers (canonicalText Idf3 rs) old)
+
+    -- by size: too large a text, 1; too little room, 14 with the length; else the text
+    pub write-large : (room : ℕ) → limit < length (canonicalText Idf3 rs) → writeReply rows bytes room ≡ reply 1 0 0
+    write-large room h = written-reply room ∙ rw (lt-ltb limit (length (canonicalText Idf3 rs)) h)
+
+    module _ (h : length (canonicalText Idf3 rs) ≤ limit) where
+      pub write-short : (room : ℕ) → room < length (canonicalText Idf3 rs) → writeReply rows bytes room ≡ reply 14 0 (length (canonicalText Idf3 rs))
+      write-short room i = written-reply room ∙ rw (le-ltb limit (length (canonicalText Idf3 rs)) h, lt-ltb room (length (canonicalText Idf3 rs)) i)
+
+      pub write-says : (room : ℕ) → length (canonicalText Idf3 rs) ≤ room → writeReply rows bytes room ≡ reply 0 0 (length (canonicalText Idf3 rs))
+      write-says room i = written-reply room ∙ rw (le-ltb limit (length (canonicalText Idf3 rs)) h, le-ltb room (length (canonicalText Idf3 rs)) i)
+
+      pub write-puts : (old : List ℕ) → length (canonicalText Idf3 rs) ≤ length old
+          → writeText rows bytes old ≡ canonicalText Idf3 rs ++ drop (length (canonicalText Idf3 rs)) old
+      write-puts old i = written-text old ∙ rw (le-ltb limit (length (canonicalText Idf3 rs)) h, le-ltb (length old) (length (canonicalText Idf3 rs)) i)
+
+  -- 0 exactly where the rows mean a list that a file may say, whose text is within the limit and the room
+  pub write-accepts : (room : ℕ)
+      → (writeReply rows bytes room .number ≡ 0)
+      ↔ ((rs : List Rec) × RowsSay bytes rs rows × (length (canonicalText Idf3 rs) ≤ limit) × (length (canonicalText Idf3 rs) ≤ room))
+  unfolding writeReply
+  write-accepts room = (
+    λ e. go (writable Idf3 bytes (wholeRows rows)) refl e,
+    λ w. ap (λ (r : Reply). r .number) (write-says (w .1) (w .2) room (w .3)),
+  )
+    where
+      go : (b : Bool) → writable Idf3 bytes (wholeRows rows) ≡ b → cond b (sizedReply (length (textOf Idf3 bytes (wholeRows rows))) room) (reply 15 0 0) .number ≡ 0
+          → (rs : List Rec) × RowsSay bytes rs rows × (length (canonicalText Idf3 rs) ≤ limit) × (length (canonicalText Idf3 rs) ≤ room)
+      go true e z =
+          let s = writable-iff .0 e in
+          let b = sized-zero (length (canonicalText Idf3 (s .0))) room (rw (text-is (s .1 .means)) at z) in
+          (s .0, s .1, b .0, b .1)
+      go false e z = absurd (omega arith)

@@ -1,4 +1,0 @@
-pub mod WordRules
-pub mod RecordRules
-pub mod Canonical
-pub mod FileRules

@@ -1,0 +1,4 @@
+pub mod Looks
+pub mod FirstField
+pub mod Fields
+pub mod Starts
