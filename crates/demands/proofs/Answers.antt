@@ -10,6 +10,7 @@ use lib.Dec.{eqb, ltb}
 use lib.IntN.{ℤ}
 use lib.ListN.{length, take, drop}
 use lib.Seq.{take-at, drop-at}
+use Rattle.read.proofs.ReplyLaws.{accepted-small}
 use Rattle.law.specs.Lines.{File}
 use Rattle.text.specs.Lines.{linesOf}
 use Rattle.text.proofs.LineSpelling.{lines-sound, lines-unique}
@@ -21,7 +22,6 @@ use Rattle.order.specs.declared.State.{State}
 use Rattle.law.specs.Answers.{limit, reply}
 use Rattle.read.specs.Replies.{checkReply, readReply, readRows, rowsOf}
 use Rattle.law.specs.declared.Reply.{Reply}
-use Rattle.same.proofs.VerdictLaws.{accepted-small}
 use Rattle.shown_read.specs.Told.{Told, ended, broken, toldFrom}
 use Rattle.law.specs.Files.{FileSays}
 use Rattle.shown_read.specs.Outcomes.{replyOf}

@@ -5,12 +5,14 @@ use mathlib.Core.Path.{_≡_, refl, sym, ap, subst}
 use mathlib.Core.List.{List, [], _∷_, _++_}
 use native.Mathlib.Omega.{arith}
 use lib.ListN.{length, replicate, length-replicate}
+use Rattle.rows_texts.specs.Names.{sameNames, refers}
+use Rattle.basics.specs.Integers.{eqZ}
 use Rattle.law.specs.Bytes.{permitted, allOf, begins, ascii}
 use Rattle.text_fields.specs.FirstField.{span, endsWell, bareAt, closedAt, quotedAt, fieldAt, fieldOf}
 use Rattle.text_fields.specs.Fields.{fieldsIn, fieldsOf}
 use Rattle.text.specs.Lines.{endLen, contentLen, lineEnd, linesOf}
 use Rattle.text.proofs.LineSpelling.{lines-sound}
-use Rattle.number.specs.Numbers.{digitHere, judge, decimals, whole, body, readNumber}
+use Rattle.number.specs.Numbers.{digitHere, toCount, decimals, whole, body, readNumber}
 use Rattle.number.specs.Integers.{digits, unsigned, readInteger}
 use Rattle.law.specs.Dates.{datePieces, isTwo, fitsIn, isDate}
 use Rattle.law.specs.Printing.{numeralOf, decimalsOf, magnitudeOf, signOf, printed}
@@ -29,7 +31,7 @@ use Rattle.law.specs.Canonical as canonical
 use Rattle.law.specs.Canonical.{needsQuotes, canonicalField, canonicalFields, joined, canonicalLine, canonicalRecord, canonicalText}
 use Rattle.line_rows.specs.LineKinds.{kindOf}
 use Rattle.line_rows.specs.Rows.{entryAt, fillFrom, filled}
-use Rattle.order_loops.specs.Loops.{eqZ, loopAfter}
+use Rattle.order_loops.specs.Loops.{loopAfter}
 use Rattle.law.specs.Records.{shapeOf, manyLoops}
 use Rattle.order.specs.Stages.{mayOpen, after}
 use Rattle.order.specs.Places.{dataKind, keyKind}
@@ -38,8 +40,8 @@ use Rattle.walk.specs.Judging.{filledBy, ofKind, dataBy, judged}
 use Rattle.law.specs.Answers.{limit, reply, verdict}
 use Rattle.walk.specs.Walks.{lineIn, turnOf, traceIn, traceAt}
 use Rattle.rows_texts.specs.Texts.{textIs, sameTexts}
-use Rattle.names.specs.Names.{sameNames, usedIn, repeatIn}
-use Rattle.read.specs.Replies.{endedBy, surveyed, rowsIn, rowsOf, checkReply, readReply}
+use Rattle.names.specs.Names.{usedIn, repeatIn}
+use Rattle.read.specs.Replies.{endedBy, surveyed, rowsIn, rowsOf, checkReply, readReply, examined, typeFrom}
 use Rattle.write_columns.specs.Columns.{liesIn, rangeFits, integerFits, numberFits, wordFits, allZero, fieldsFit, rowFits}
 use Rattle.write_columns.specs.Records.{valuesIn}
 use Rattle.write_lines.specs.LineText.{lineText}
@@ -130,7 +132,7 @@ pub answers :
     × (judgeReply board library ≡ verdict 16 0 1 1)
     × (judgeReply library entry ≡ verdict 17 0 0 1)
     × (judgeReply board board ≡ verdict 17 0 0 2)
-unfolding judgeReply judging.withLibrary judging.matched judging.placed judging.placedFrom judging.typeOf judging.typeFrom entries.lacksEntry entries.hasEntry entries.entryIn entries.refers sameNames sameTexts textIs sameReply sameLists sameRow sameFrom agreesAt sameField ignoredAt listIn readReply checkReply surveyed endedBy repeatIn usedIn rowsIn traceAt traceIn turnOf lineIn judged ofKind dataBy filledBy kindOf filled fillFrom entryAt lineEnd contentLen endLen lineAs begins allOf permitted fieldsOf fieldsIn fieldOf fieldAt bareAt closedAt quotedAt endsWell span keywordOf keyFrom folded sameBytes placeOf wordsOf sections sectionNames kindAt sectionOf lineOf roleOf layoutOf typesOf keyKind dataKind mayStand mayOpen after moved stepped shapeOf manyLoops loopAfter eqZ meaning barred kept within beyond readField readNumber body whole decimals judge digitHere readInteger unsigned digits isDate fitsIn isTwo datePieces
+unfolding judgeReply judging.withLibrary judging.matched judging.placed judging.placedFrom examined typeFrom entries.lacksEntry entries.hasEntry entries.entryIn refers sameNames sameTexts textIs sameReply sameLists sameRow sameFrom agreesAt sameField ignoredAt listIn readReply checkReply surveyed endedBy repeatIn usedIn rowsIn traceAt traceIn turnOf lineIn judged ofKind dataBy filledBy kindOf filled fillFrom entryAt lineEnd contentLen endLen lineAs begins allOf permitted fieldsOf fieldsIn fieldOf fieldAt bareAt closedAt quotedAt endsWell span keywordOf keyFrom folded sameBytes placeOf wordsOf sections sectionNames kindAt sectionOf lineOf roleOf layoutOf typesOf keyKind dataKind mayStand mayOpen after moved stepped shapeOf manyLoops loopAfter eqZ meaning barred kept within beyond readField readNumber body whole decimals toCount digitHere readInteger unsigned digits isDate fitsIn isTwo datePieces
 answers = (refl, refl, refl, refl, refl, refl, refl, refl, refl, refl, refl, refl, refl, refl, refl, refl)
 
 -- the rows of a file, written over its bytes: enough room, too little; no rows
@@ -139,7 +141,7 @@ pub written :
     × (writeReply (rowsOf library) library 60 ≡ reply 14 0 61)
     × (writeReply [] library 60 ≡ reply 15 0 0)
     × (writeText (rowsOf other-words) other-words (replicate 61 46) ≡ library)
-unfolding writeReply writeText textOf lineText canonicalRecord canonicalLine canonicalFields canonicalField canonical.written joined needsQuotes isEmpty printed signOf magnitudeOf numeralOf decimalsOf wordAt isKind wholeRows chunks writable carries rowStep twice namedIn namesIt sameNames sameTexts rowFits fieldsFit allZero rangeFits liesIn integerFits numberFits wordFits fits goodText valuesIn rowsIn traceAt traceIn turnOf lineIn judged ofKind dataBy filledBy kindOf filled fillFrom entryAt lineEnd contentLen endLen lineAs begins allOf permitted fieldsOf fieldsIn fieldOf fieldAt bareAt closedAt quotedAt endsWell span keywordOf keyFrom folded sameBytes placeOf wordsOf sections sectionNames kindAt sectionOf lineOf roleOf layoutOf typesOf keyKind dataKind mayStand mayOpen after moved stepped shapeOf manyLoops loopAfter eqZ meaning barred kept within beyond readField readNumber body whole decimals judge digitHere readInteger unsigned digits isDate fitsIn isTwo datePieces
+unfolding writeReply writeText textOf lineText canonicalRecord canonicalLine canonicalFields canonicalField canonical.written joined needsQuotes isEmpty printed signOf magnitudeOf numeralOf decimalsOf wordAt isKind wholeRows chunks writable carries rowStep twice namedIn namesIt sameNames sameTexts rowFits fieldsFit allZero rangeFits liesIn integerFits numberFits wordFits fits goodText valuesIn rowsIn traceAt traceIn turnOf lineIn judged ofKind dataBy filledBy kindOf filled fillFrom entryAt lineEnd contentLen endLen lineAs begins allOf permitted fieldsOf fieldsIn fieldOf fieldAt bareAt closedAt quotedAt endsWell span keywordOf keyFrom folded sameBytes placeOf wordsOf sections sectionNames kindAt sectionOf lineOf roleOf layoutOf typesOf keyKind dataKind mayStand mayOpen after moved stepped shapeOf manyLoops loopAfter eqZ meaning barred kept within beyond readField readNumber body whole decimals toCount digitHere readInteger unsigned digits isDate fitsIn isTwo datePieces
 written = (refl, refl, refl, refl)
 
 -- so they meet the premises

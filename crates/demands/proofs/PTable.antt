@@ -4,13 +4,14 @@ use mathlib.Core.Path.{_≡_, refl}
 use mathlib.Core.List.{[], _∷_, _++_}
 use mathlib.Core.Bool.{false}
 use lib.IntN.{pos, negsuc}
+use Rattle.basics.specs.Integers.{eqZ}
 use Rattle.law.specs.Bytes.{permitted, allOf, begins, ascii}
 use Rattle.law.specs.Fields.{field}
 use Rattle.text_fields.specs.FirstField.{span, endsWell, bareAt, fieldAt, fieldOf}
 use Rattle.text_fields.specs.Fields.{fieldsIn, fieldsOf}
 use Rattle.text.specs.Lines.{endLen, contentLen, lineEnd}
 use Rattle.law.specs.Limits.{largestLength}
-use Rattle.number.specs.Numbers.{digitHere, judge, decimals, whole, body, readNumber}
+use Rattle.number.specs.Numbers.{digitHere, toCount, decimals, whole, body, readNumber}
 use Rattle.number.specs.Integers.{digits, unsigned, readInteger}
 use Rattle.law.specs.Dates.{datePieces, isTwo, fitsIn, isDate}
 use Rattle.law.specs.Values.{Value, number}
@@ -29,7 +30,6 @@ use Rattle.law.specs.declared.Limit.the-variants.{Length, Included}
 use Rattle.law.specs.declared.FieldType.the-variants.{Number}
 use Rattle.line_rows.specs.LineKinds.{kindOf}
 use Rattle.line_rows.specs.Rows.{entryAt, fillFrom, filled}
-use Rattle.order_loops.specs.Loops.{eqZ}
 use Rattle.law.specs.Records.{shapeOf}
 use Rattle.order.specs.Stages.{mayOpen}
 use Rattle.order.specs.Places.{dataKind, keyKind}
@@ -63,5 +63,5 @@ pub p-table :
     × (angle "-359.99999" ≡ good (number (negsuc 35_999_998)))
     × (checkReply [] ≡ reply 13 1 0)
     × (checkReply (ascii ".HEADER" ++ (10 ∷ (ascii "LIBRARY_FILE 3.0 s 2024/05/06.07:08:09 1" ++ (10 ∷ (ascii ".END_HEADER" ++ (10 ∷ [])))))) ≡ reply 0 0 3)
-unfolding checkReply surveyed endedBy repeatIn traceAt traceIn turnOf lineIn judged ofKind dataBy filledBy kindOf filled fillFrom entryAt lineEnd contentLen endLen lineAs begins allOf permitted fieldsOf fieldsIn fieldOf fieldAt bareAt endsWell span keywordOf keyFrom folded sameBytes placeOf wordsOf sections sectionNames kindAt sectionOf lineOf roleOf layoutOf typesOf keyKind dataKind mayStand mayOpen moved stepped shapeOf eqZ meaning kept within beyond readField readNumber body whole decimals judge digitHere readInteger unsigned digits isDate fitsIn isTwo datePieces
+unfolding checkReply surveyed endedBy repeatIn traceAt traceIn turnOf lineIn judged ofKind dataBy filledBy kindOf filled fillFrom entryAt lineEnd contentLen endLen lineAs begins allOf permitted fieldsOf fieldsIn fieldOf fieldAt bareAt endsWell span keywordOf keyFrom folded sameBytes placeOf wordsOf sections sectionNames kindAt sectionOf lineOf roleOf layoutOf typesOf keyKind dataKind mayStand mayOpen moved stepped shapeOf eqZ meaning kept within beyond readField readNumber body whole decimals toCount digitHere readInteger unsigned digits isDate fitsIn isTwo datePieces
 p-table = (refl, refl, refl, refl, refl, refl, refl, refl, refl, refl, refl, refl, refl, refl, refl)

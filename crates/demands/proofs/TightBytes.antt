@@ -1,5 +1,9 @@
 -- Bytes, numbers and the format's tables: the contract of each public function leaves no choice.
 use mathlib.Core.Path.{refl, sym, _∙_}
+use Rattle.basics.proofs.same_bytes.Kinds as basics-same-bytes
+use Rattle.basics.proofs.same_bytes.Reads as basics-same-bytes-says
+use Rattle.basics.proofs.same_integers.Kinds as basics-same-integers
+use Rattle.basics.proofs.same_integers.Reads as basics-same-integers-says
 use Rattle.text.proofs.class.Kinds as text-class
 use Rattle.text.proofs.class.Reads as text-class-says
 use Rattle.text.proofs.permits.Kinds as text-permits
@@ -10,8 +14,6 @@ use Rattle.text.proofs.line_end.Kinds as text-line-end
 use Rattle.text.proofs.line_end.Reads as text-line-end-says
 use Rattle.text.proofs.begins_with.Kinds as text-begins-with
 use Rattle.text.proofs.begins_with.Reads as text-begins-with-says
-use Rattle.text_fields.proofs.look.Kinds as text-fields-look
-use Rattle.text_fields.proofs.look.Reads as text-fields-look-says
 use Rattle.text_fields.proofs.field.Kinds as text-fields-field
 use Rattle.text_fields.proofs.field.Reads as text-fields-field-says
 use Rattle.text_fields.proofs.count_fields.Kinds as text-fields-count-fields
@@ -44,20 +46,44 @@ use Rattle.number_print.proofs.count_len.Kinds as number-print-count-len
 use Rattle.number_print.proofs.count_len.Reads as number-print-count-len-says
 use Rattle.number_print.proofs.integer_len.Kinds as number-print-integer-len
 use Rattle.number_print.proofs.integer_len.Reads as number-print-integer-len-says
+use Rattle.rows.proofs.point_in.Kinds as rows-point-in
+use Rattle.rows.proofs.point_in.Reads as rows-point-in-says
+use Rattle.rows.proofs.file_type_in.Kinds as rows-file-type-in
+use Rattle.rows.proofs.file_type_in.Reads as rows-file-type-in-says
+use Rattle.rows.proofs.leads_component.Kinds as rows-leads-component
+use Rattle.rows.proofs.leads_component.Reads as rows-leads-component-says
+use Rattle.rows.proofs.column_at.Kinds as rows-column-at
+use Rattle.rows.proofs.column_at.Reads as rows-column-at-says
+use Rattle.rows.proofs.has_kind.Kinds as rows-has-kind
+use Rattle.rows.proofs.has_kind.Reads as rows-has-kind-says
+use Rattle.rows.proofs.component_kind.Kinds as rows-component-kind
+use Rattle.rows.proofs.component_kind.Reads as rows-component-kind-says
+use Rattle.rows.proofs.is_library.Kinds as rows-is-library
+use Rattle.rows.proofs.is_library.Reads as rows-is-library-says
+use Rattle.rows_texts.proofs.text_is.Kinds as rows-texts-text-is
+use Rattle.rows_texts.proofs.text_is.Reads as rows-texts-text-is-says
+use Rattle.rows_texts.proofs.same_texts.Kinds as rows-texts-same-texts
+use Rattle.rows_texts.proofs.same_texts.Reads as rows-texts-same-texts-says
+use Rattle.rows_texts.proofs.hash_text.Kinds as rows-texts-hash-text
+use Rattle.rows_texts.proofs.hash_text.Reads as rows-texts-hash-text-says
+use Rattle.rows_texts.proofs.same_names.Kinds as rows-texts-same-names
+use Rattle.rows_texts.proofs.same_names.Reads as rows-texts-same-names-says
+use Rattle.rows_texts.proofs.hash_name.Kinds as rows-texts-hash-name
+use Rattle.rows_texts.proofs.hash_name.Reads as rows-texts-hash-name-says
+use Rattle.rows_texts.proofs.refers.Kinds as rows-texts-refers
+use Rattle.rows_texts.proofs.refers.Reads as rows-texts-refers-says
 use Rattle.form_layouts.proofs.section_of.Kinds as form-layouts-section-of
 use Rattle.form_layouts.proofs.section_of.Reads as form-layouts-section-of-says
 use Rattle.form_layouts.proofs.is_kind.Kinds as form-layouts-is-kind
 use Rattle.form_layouts.proofs.is_kind.Reads as form-layouts-is-kind-says
 use Rattle.form_layouts.proofs.field_count.Kinds as form-layouts-field-count
 use Rattle.form_layouts.proofs.field_count.Reads as form-layouts-field-count-says
-use Rattle.form_layouts.proofs.column_count.Kinds as form-layouts-column-count
-use Rattle.form_layouts.proofs.column_count.Reads as form-layouts-column-count-says
 use Rattle.form_layouts.proofs.width_of.Kinds as form-layouts-width-of
 use Rattle.form_layouts.proofs.width_of.Reads as form-layouts-width-of-says
 use Rattle.form_layouts.proofs.row_of.Kinds as form-layouts-row-of
 use Rattle.form_layouts.proofs.row_of.Reads as form-layouts-row-of-says
-use Rattle.form_layouts.proofs.type_in.Kinds as form-layouts-type-in
-use Rattle.form_layouts.proofs.type_in.Reads as form-layouts-type-in-says
+use Rattle.form_layouts.proofs.field_type.Kinds as form-layouts-field-type
+use Rattle.form_layouts.proofs.field_type.Reads as form-layouts-field-type-says
 use Rattle.form_words.proofs.place_of.Kinds as form-words-place-of
 use Rattle.form_words.proofs.place_of.Reads as form-words-place-of-says
 use Rattle.form_words.proofs.word_row.Kinds as form-words-word-row
@@ -80,6 +106,14 @@ use Rattle.names_slots.proofs.place.Kinds as names-slots-place
 use Rattle.names_slots.proofs.place.Reads as names-slots-place-says
 use Rattle.demands.specs.Tight.{Tight}
 
+-- `basics`
+
+pub tight-basics-same-bytes : Tight 2 basics-same-bytes.ps basics-same-bytes.r basics-same-bytes-says.Learnt
+tight-basics-same-bytes κs a r q ws us e f = (e ∙ sym f, refl)
+
+pub tight-basics-same-integers : Tight 0 basics-same-integers.ps basics-same-integers.r basics-same-integers-says.Learnt
+tight-basics-same-integers κs a r q ws us e f = (e ∙ sym f, refl)
+
 -- `text`
 
 pub tight-text-class : Tight 0 text-class.ps text-class.r text-class-says.Learnt
@@ -97,10 +131,7 @@ tight-text-line-end κs a r q ws us e f = (e ∙ sym f, refl)
 pub tight-text-begins-with : Tight 1 text-begins-with.ps text-begins-with.r text-begins-with-says.Learnt
 tight-text-begins-with κs a r q ws us e f = (e ∙ sym f, refl)
 
--- `cutting`
-
-pub tight-text-fields-look : Tight 1 text-fields-look.ps text-fields-look.r text-fields-look-says.Learnt
-tight-text-fields-look κs a r q ws us e f = (e ∙ sym f, refl)
+-- `text_fields`
 
 pub tight-text-fields-field : Tight 1 text-fields-field.ps text-fields-field.r text-fields-field-says.Learnt
 tight-text-fields-field κs a r q ws us e f = (e ∙ sym f, refl)
@@ -108,7 +139,7 @@ tight-text-fields-field κs a r q ws us e f = (e ∙ sym f, refl)
 pub tight-text-fields-count-fields : Tight 1 text-fields-count-fields.ps text-fields-count-fields.r text-fields-count-fields-says.Learnt
 tight-text-fields-count-fields κs a r q ws us e f = (e ∙ sym f, refl)
 
--- `measure`
+-- `number`
 
 pub tight-number-magnitude : Tight 0 number-magnitude.ps number-magnitude.r number-magnitude-says.Learnt
 tight-number-magnitude κs a r q ws us e f = (e ∙ sym f, refl)
@@ -128,7 +159,7 @@ tight-number-Angle-included κs a r q ws us e f = (e ∙ sym f, refl)
 pub tight-number-Integer-new : Tight 0 number-Integer-new.ps number-Integer-new.r number-Integer-new-says.Learnt
 tight-number-Integer-new κs a r q ws us e f = (e ∙ sym f, refl)
 
--- `measuring`
+-- `number_read`
 
 pub tight-number-read-number : Tight 1 number-read-number.ps number-read-number.r number-read-number-says.Learnt
 tight-number-read-number κs a r q ws us e f = (e ∙ sym f, refl)
@@ -139,7 +170,7 @@ tight-number-read-integer κs a r q ws us e f = (e ∙ sym f, refl)
 pub tight-number-read-is-date : Tight 1 number-read-is-date.ps number-read-is-date.r number-read-is-date-says.Learnt
 tight-number-read-is-date κs a r q ws us e f = (e ∙ sym f, refl)
 
--- `printing`
+-- `number_print`
 
 pub tight-number-print-put-byte : Tight 1 number-print-put-byte.ps number-print-put-byte.r number-print-put-byte-says.Learnt
 tight-number-print-put-byte κs a r q ws us e f = (e .next ∙ sym (f .next), λ i. ((e .is ∙ sym (f .is)) i, ws .1))
@@ -156,7 +187,50 @@ tight-number-print-count-len κs a r q ws us e f = (e ∙ sym f, refl)
 pub tight-number-print-integer-len : Tight 0 number-print-integer-len.ps number-print-integer-len.r number-print-integer-len-says.Learnt
 tight-number-print-integer-len κs a r q ws us e f = (e ∙ sym f, refl)
 
--- `layouts`
+-- `rows`
+
+pub tight-rows-point-in : Tight 0 rows-point-in.ps rows-point-in.r rows-point-in-says.Learnt
+tight-rows-point-in κs a r q ws us e f = (e ∙ sym f, refl)
+
+pub tight-rows-file-type-in : Tight 0 rows-file-type-in.ps rows-file-type-in.r rows-file-type-in-says.Learnt
+tight-rows-file-type-in κs a r q ws us e f = (e ∙ sym f, refl)
+
+pub tight-rows-leads-component : Tight 0 rows-leads-component.ps rows-leads-component.r rows-leads-component-says.Learnt
+tight-rows-leads-component κs a r q ws us e f = (e ∙ sym f, refl)
+
+pub tight-rows-column-at : Tight 1 rows-column-at.ps rows-column-at.r rows-column-at-says.Learnt
+tight-rows-column-at κs a r q ws us e f = (e ∙ sym f, refl)
+
+pub tight-rows-has-kind : Tight 0 rows-has-kind.ps rows-has-kind.r rows-has-kind-says.Learnt
+tight-rows-has-kind κs a r q ws us e f = (e ∙ sym f, refl)
+
+pub tight-rows-component-kind : Tight 0 rows-component-kind.ps rows-component-kind.r rows-component-kind-says.Learnt
+tight-rows-component-kind κs a r q ws us e f = (e ∙ sym f, refl)
+
+pub tight-rows-is-library : Tight 0 rows-is-library.ps rows-is-library.r rows-is-library-says.Learnt
+tight-rows-is-library κs a r q ws us e f = (e ∙ sym f, refl)
+
+-- `rows_texts`
+
+pub tight-rows-texts-text-is : Tight 2 rows-texts-text-is.ps rows-texts-text-is.r rows-texts-text-is-says.Learnt
+tight-rows-texts-text-is κs a r q ws us e f = (e ∙ sym f, refl)
+
+pub tight-rows-texts-same-texts : Tight 2 rows-texts-same-texts.ps rows-texts-same-texts.r rows-texts-same-texts-says.Learnt
+tight-rows-texts-same-texts κs a r q ws us e f = (e ∙ sym f, refl)
+
+pub tight-rows-texts-hash-text : Tight 1 rows-texts-hash-text.ps rows-texts-hash-text.r rows-texts-hash-text-says.Learnt
+tight-rows-texts-hash-text κs a r q ws us e f = (e ∙ sym f, refl)
+
+pub tight-rows-texts-same-names : Tight 2 rows-texts-same-names.ps rows-texts-same-names.r rows-texts-same-names-says.Learnt
+tight-rows-texts-same-names κs a r q ws us e f = (e ∙ sym f, refl)
+
+pub tight-rows-texts-hash-name : Tight 1 rows-texts-hash-name.ps rows-texts-hash-name.r rows-texts-hash-name-says.Learnt
+tight-rows-texts-hash-name κs a r q ws us e f = (e ∙ sym f, refl)
+
+pub tight-rows-texts-refers : Tight 2 rows-texts-refers.ps rows-texts-refers.r rows-texts-refers-says.Learnt
+tight-rows-texts-refers κs a r q ws us e f = (e ∙ sym f, refl)
+
+-- `form_layouts`
 
 pub tight-form-layouts-section-of : Tight 0 form-layouts-section-of.ps form-layouts-section-of.r form-layouts-section-of-says.Learnt
 tight-form-layouts-section-of κs a r q ws us e f = (e ∙ sym f, refl)
@@ -167,19 +241,16 @@ tight-form-layouts-is-kind κs a r q ws us e f = (e ∙ sym f, refl)
 pub tight-form-layouts-field-count : Tight 0 form-layouts-field-count.ps form-layouts-field-count.r form-layouts-field-count-says.Learnt
 tight-form-layouts-field-count κs a r q ws us e f = (e ∙ sym f, refl)
 
-pub tight-form-layouts-column-count : Tight 0 form-layouts-column-count.ps form-layouts-column-count.r form-layouts-column-count-says.Learnt
-tight-form-layouts-column-count κs a r q ws us e f = (e ∙ sym f, refl)
-
 pub tight-form-layouts-width-of : Tight 0 form-layouts-width-of.ps form-layouts-width-of.r form-layouts-width-of-says.Learnt
 tight-form-layouts-width-of κs a r q ws us e f = (e ∙ sym f, refl)
 
 pub tight-form-layouts-row-of : Tight 0 form-layouts-row-of.ps form-layouts-row-of.r form-layouts-row-of-says.Learnt
 tight-form-layouts-row-of κs a r q ws us e f = (e ∙ sym f, refl)
 
-pub tight-form-layouts-type-in : Tight 0 form-layouts-type-in.ps form-layouts-type-in.r form-layouts-type-in-says.Learnt
-tight-form-layouts-type-in κs a r q ws us e f = (e ∙ sym f, refl)
+pub tight-form-layouts-field-type : Tight 0 form-layouts-field-type.ps form-layouts-field-type.r form-layouts-field-type-says.Learnt
+tight-form-layouts-field-type κs a r q ws us e f = (e ∙ sym f, refl)
 
--- `words`
+-- `form_words`
 
 pub tight-form-words-place-of : Tight 1 form-words-place-of.ps form-words-place-of.r form-words-place-of-says.Learnt
 tight-form-words-place-of κs a r q ws us e f = (e ∙ sym f, refl)
@@ -196,7 +267,7 @@ tight-form-words-is-prop κs a r q ws us e f = (e ∙ sym f, refl)
 pub tight-form-words-read-keyword : Tight 1 form-words-read-keyword.ps form-words-read-keyword.r form-words-read-keyword-says.Learnt
 tight-form-words-read-keyword κs a r q ws us e f = (e ∙ sym f, refl)
 
--- `slots`
+-- `names_slots`
 
 pub tight-names-slots-hash : Tight 1 names-slots-hash.ps names-slots-hash.r names-slots-hash-says.Learnt
 tight-names-slots-hash κs a r q ws us e f = (e ∙ sym f, refl)

@@ -20,8 +20,6 @@ use Rattle.judge.proofs.parts.placed.Kinds as judge-parts-placed
 use Rattle.judge.proofs.parts.placed.Reads as judge-parts-placed-says
 use Rattle.judge.proofs.whole.judge.Kinds as judge-whole-judge
 use Rattle.judge.proofs.whole.judge.Reads as judge-whole-judge-says
-use Rattle.write_columns.proofs.column_at.Kinds as write-columns-column-at
-use Rattle.write_columns.proofs.column_at.Reads as write-columns-column-at-says
 use Rattle.write_columns.proofs.row_fits.Kinds as write-columns-row-fits
 use Rattle.write_columns.proofs.row_fits.Reads as write-columns-row-fits-says
 use Rattle.write_lines.proofs.line_len.Kinds as write-lines-line-len
@@ -32,7 +30,7 @@ use Rattle.write.proofs.whole.write.Kinds as write-whole-write
 use Rattle.write.proofs.whole.write.Reads as write-whole-write-says
 use Rattle.demands.specs.Tight.{Tight}
 
--- `comparing`
+-- `same`
 
 pub tight-same-same : Tight 2 same-same.ps same-same.r same-same-says.Learnt
 tight-same-same κs a r q ws us e f = (e ∙ sym f, refl)
@@ -43,7 +41,7 @@ tight-same-lists-same-lists κs a r q ws us e f = (e ∙ sym f, refl)
 pub tight-same-records-same-row : Tight 2 same-records-same-row.ps same-records-same-row.r same-records-same-row-says.Learnt
 tight-same-records-same-row κs a r q ws us e f = (e ∙ sym f, refl)
 
--- `stock`
+-- `judge_stock`
 
 pub tight-judge-stock-is-in : Tight 0 judge-stock-is-in.ps judge-stock-is-in.r judge-stock-is-in-says.Learnt
 tight-judge-stock-is-in κs a r q ws us e f = (e ∙ sym f, refl)
@@ -54,7 +52,7 @@ tight-judge-stock-fill κs a r q ws us e f = (e .0 ∙ sym (f .0), λ i. (ws .0,
 pub tight-judge-stock-has-place : Tight 3 judge-stock-has-place.ps judge-stock-has-place.r judge-stock-has-place-says.Learnt
 tight-judge-stock-has-place κs a r q ws us e f = (e ∙ sym f, refl)
 
--- `judging`
+-- `judge`
 
 pub tight-judge-entries-is-of : Tight 0 judge-entries-is-of.ps judge-entries-is-of.r judge-entries-is-of-says.Learnt
 tight-judge-entries-is-of κs a r q ws us e f = (e ∙ sym f, refl)
@@ -68,15 +66,12 @@ tight-judge-parts-placed κs a r q ws us e f = (e ∙ sym f, refl)
 pub tight-judge-whole-judge : Tight 2 judge-whole-judge.ps judge-whole-judge.r judge-whole-judge-says.Learnt
 tight-judge-whole-judge κs a r q ws us e f = (e ∙ sym f, refl)
 
--- `columns`
-
-pub tight-write-columns-column-at : Tight 1 write-columns-column-at.ps write-columns-column-at.r write-columns-column-at-says.Learnt
-tight-write-columns-column-at κs a r q ws us e f = (e ∙ sym f, refl)
+-- `write_columns`
 
 pub tight-write-columns-row-fits : Tight 1 write-columns-row-fits.ps write-columns-row-fits.r write-columns-row-fits-says.Learnt
 tight-write-columns-row-fits κs a r q ws us e f = (e ∙ sym f, refl)
 
--- `setting`
+-- `write_lines`
 
 pub tight-write-lines-line-len : Tight 1 write-lines-line-len.ps write-lines-line-len.r write-lines-line-len-says.Learnt
 tight-write-lines-line-len κs a r q ws us e f = (e ∙ sym f, refl)
@@ -84,7 +79,7 @@ tight-write-lines-line-len κs a r q ws us e f = (e ∙ sym f, refl)
 pub tight-write-lines-put-line : Tight 2 write-lines-put-line.ps write-lines-put-line.r write-lines-put-line-says.Learnt
 tight-write-lines-put-line κs a r q ws us e f = (e .next ∙ sym (f .next), λ i. ((e .is ∙ sym (f .is)) i, ws .1))
 
--- `writing`
+-- `write`
 
 pub tight-write-whole-write : Tight 3 write-whole-write.ps write-whole-write.r write-whole-write-says.Learnt
 tight-write-whole-write κs a r q ws us e f = (e .0 ∙ sym (f .0), λ i. (ws .0, (ws .1 .0, ((e .1 ∙ sym (f .1)) i, ws .1 .1 .1))))

@@ -1,11 +1,7 @@
 -- Reading: the contract of each public function leaves no choice.
 use mathlib.Core.Path.{refl, sym, _∙_}
-use Rattle.walk.proofs.line.point_in.Kinds as walk-line-point-in
-use Rattle.walk.proofs.line.point_in.Reads as walk-line-point-in-says
-use Rattle.walk.proofs.line.type_in.Kinds as walk-line-type-in
-use Rattle.walk.proofs.line.type_in.Reads as walk-line-type-in-says
-use Rattle.walk.proofs.line.judge.Kinds as walk-line-judge
-use Rattle.walk.proofs.line.judge.Reads as walk-line-judge-says
+use Rattle.walk.proofs.line.judge_line.Kinds as walk-line-judge-line
+use Rattle.walk.proofs.line.judge_line.Reads as walk-line-judge-line-says
 use Rattle.walk.proofs.steps.begin.Kinds as walk-steps-begin
 use Rattle.walk.proofs.steps.begin.Reads as walk-steps-begin-says
 use Rattle.walk.proofs.steps.turn.Kinds as walk-steps-turn
@@ -14,14 +10,8 @@ use Rattle.walk.proofs.steps.stops.Kinds as walk-steps-stops
 use Rattle.walk.proofs.steps.stops.Reads as walk-steps-stops-says
 use Rattle.walk.proofs.steps.is_row.Kinds as walk-steps-is-row
 use Rattle.walk.proofs.steps.is_row.Reads as walk-steps-is-row-says
-use Rattle.names.proofs.same_names.Kinds as names-same-names
-use Rattle.names.proofs.same_names.Reads as names-same-names-says
-use Rattle.names.proofs.leads_component.Kinds as names-leads-component
-use Rattle.names.proofs.leads_component.Reads as names-leads-component-says
 use Rattle.names.proofs.names_component.Kinds as names-names-component
 use Rattle.names.proofs.names_component.Reads as names-names-component-says
-use Rattle.names.proofs.key.Kinds as names-key
-use Rattle.names.proofs.key.Reads as names-key-says
 use Rattle.names.proofs.is_doubtful.Kinds as names-is-doubtful
 use Rattle.names.proofs.is_doubtful.Reads as names-is-doubtful-says
 use Rattle.names.proofs.is_again.Kinds as names-is-again
@@ -36,18 +26,14 @@ use Rattle.read.proofs.whole.check.Kinds as read-whole-check
 use Rattle.read.proofs.whole.check.Reads as read-whole-check-says
 use Rattle.read.proofs.whole.read.Kinds as read-whole-read
 use Rattle.read.proofs.whole.read.Reads as read-whole-read-says
+use Rattle.read.proofs.whole.examined.Kinds as read-whole-examined
+use Rattle.read.proofs.whole.examined.Reads as read-whole-examined-says
 use Rattle.demands.specs.Tight.{Tight}
 
--- `walking`
+-- `walk`
 
-pub tight-walk-line-point-in : Tight 0 walk-line-point-in.ps walk-line-point-in.r walk-line-point-in-says.Learnt
-tight-walk-line-point-in κs a r q ws us e f = (e ∙ sym f, refl)
-
-pub tight-walk-line-type-in : Tight 0 walk-line-type-in.ps walk-line-type-in.r walk-line-type-in-says.Learnt
-tight-walk-line-type-in κs a r q ws us e f = (e ∙ sym f, refl)
-
-pub tight-walk-line-judge : Tight 1 walk-line-judge.ps walk-line-judge.r walk-line-judge-says.Learnt
-tight-walk-line-judge κs a r q ws us e f = (e ∙ sym f, refl)
+pub tight-walk-line-judge-line : Tight 1 walk-line-judge-line.ps walk-line-judge-line.r walk-line-judge-line-says.Learnt
+tight-walk-line-judge-line κs a r q ws us e f = (e ∙ sym f, refl)
 
 pub tight-walk-steps-begin : Tight 0 walk-steps-begin.ps walk-steps-begin.r walk-steps-begin-says.Learnt
 tight-walk-steps-begin κs a r q ws us e f = (e ∙ sym f, refl)
@@ -61,19 +47,10 @@ tight-walk-steps-stops κs a r q ws us e f = (e ∙ sym f, refl)
 pub tight-walk-steps-is-row : Tight 0 walk-steps-is-row.ps walk-steps-is-row.r walk-steps-is-row-says.Learnt
 tight-walk-steps-is-row κs a r q ws us e f = (e ∙ sym f, refl)
 
--- `naming`
-
-pub tight-names-same-names : Tight 2 names-same-names.ps names-same-names.r names-same-names-says.Learnt
-tight-names-same-names κs a r q ws us e f = (e ∙ sym f, refl)
-
-pub tight-names-leads-component : Tight 0 names-leads-component.ps names-leads-component.r names-leads-component-says.Learnt
-tight-names-leads-component κs a r q ws us e f = (e ∙ sym f, refl)
+-- `names`
 
 pub tight-names-names-component : Tight 0 names-names-component.ps names-names-component.r names-names-component-says.Learnt
 tight-names-names-component κs a r q ws us e f = (e ∙ sym f, refl)
-
-pub tight-names-key : Tight 1 names-key.ps names-key.r names-key-says.Learnt
-tight-names-key κs a r q ws us e f = (e ∙ sym f, refl)
 
 pub tight-names-is-doubtful : Tight 3 names-is-doubtful.ps names-is-doubtful.r names-is-doubtful-says.Learnt
 tight-names-is-doubtful κs a r q ws us e f =
@@ -85,7 +62,7 @@ tight-names-is-again κs a r q ws us e f = (e .0 ∙ sym (f .0), λ i. (ws .0, (
 pub tight-names-first-repeat : Tight 2 names-first-repeat.ps names-first-repeat.r names-first-repeat-says.Learnt
 tight-names-first-repeat κs a r q ws us e f = (e ∙ sym f, refl)
 
--- `reading`
+-- `read`
 
 pub tight-read-lent-put-row : Tight 1 read-lent-put-row.ps read-lent-put-row.r read-lent-put-row-says.Learnt
 tight-read-lent-put-row κs a r q ws us e f = (refl, λ i. ((e ∙ sym f) i, ws .1))
@@ -98,3 +75,6 @@ tight-read-whole-check κs a r q ws us e f = (e ∙ sym f, refl)
 
 pub tight-read-whole-read : Tight 2 read-whole-read.ps read-whole-read.r read-whole-read-says.Learnt
 tight-read-whole-read κs a r q ws us e f = (e .0 ∙ sym (f .0), λ i. (ws .0, ((e .1 ∙ sym (f .1)) i, ws .1 .1)))
+
+pub tight-read-whole-examined : Tight 1 read-whole-examined.ps read-whole-examined.r read-whole-examined-says.Learnt
+tight-read-whole-examined κs a r q ws us e f = (e ∙ sym f, refl)

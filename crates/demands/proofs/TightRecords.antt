@@ -1,35 +1,15 @@
 -- Fields, lines, loops and records: the contract of each public function leaves no choice.
 use mathlib.Core.Path.{refl, sym, _∙_}
-use Rattle.line_fields.proofs.same.Kinds as line-fields-same
-use Rattle.line_fields.proofs.same.Reads as line-fields-same-says
 use Rattle.line_fields.proofs.is_within.Kinds as line-fields-is-within
 use Rattle.line_fields.proofs.is_within.Reads as line-fields-is-within-says
 use Rattle.line_fields.proofs.read_field.Kinds as line-fields-read-field
 use Rattle.line_fields.proofs.read_field.Reads as line-fields-read-field-says
-use Rattle.rows_texts.proofs.text_is.Kinds as rows-texts-text-is
-use Rattle.rows_texts.proofs.text_is.Reads as rows-texts-text-is-says
-use Rattle.rows_texts.proofs.same_texts.Kinds as rows-texts-same-texts
-use Rattle.rows_texts.proofs.same_texts.Reads as rows-texts-same-texts-says
-use Rattle.rows_texts.proofs.hash_text.Kinds as rows-texts-hash-text
-use Rattle.rows_texts.proofs.hash_text.Reads as rows-texts-hash-text-says
-use Rattle.write_texts.proofs.put_bytes.Kinds as write-texts-put-bytes
-use Rattle.write_texts.proofs.put_bytes.Reads as write-texts-put-bytes-says
-use Rattle.write_texts.proofs.needs_quotes.Kinds as write-texts-needs-quotes
-use Rattle.write_texts.proofs.needs_quotes.Reads as write-texts-needs-quotes-says
-use Rattle.write_texts.proofs.text_len.Kinds as write-texts-text-len
-use Rattle.write_texts.proofs.text_len.Reads as write-texts-text-len-says
-use Rattle.write_texts.proofs.put_text.Kinds as write-texts-put-text
-use Rattle.write_texts.proofs.put_text.Reads as write-texts-put-text-says
-use Rattle.write_texts.proofs.padded_len.Kinds as write-texts-padded-len
-use Rattle.write_texts.proofs.padded_len.Reads as write-texts-padded-len-says
-use Rattle.write_texts.proofs.put_padded.Kinds as write-texts-put-padded
-use Rattle.write_texts.proofs.put_padded.Reads as write-texts-put-padded-says
+use Rattle.line_fields.proofs.is_barred.Kinds as line-fields-is-barred
+use Rattle.line_fields.proofs.is_barred.Reads as line-fields-is-barred-says
 use Rattle.line_rows.proofs.looks.line_kind.Kinds as line-rows-looks-line-kind
 use Rattle.line_rows.proofs.looks.line_kind.Reads as line-rows-looks-line-kind-says
 use Rattle.line_rows.proofs.columns.fill.Kinds as line-rows-columns-fill
 use Rattle.line_rows.proofs.columns.fill.Reads as line-rows-columns-fill-says
-use Rattle.order_loops.proofs.same.Kinds as order-loops-same
-use Rattle.order_loops.proofs.same.Reads as order-loops-same-says
 use Rattle.order_loops.proofs.loop_after.Kinds as order-loops-loop-after
 use Rattle.order_loops.proofs.loop_after.Reads as order-loops-loop-after-says
 use Rattle.order_loops.proofs.complete.Kinds as order-loops-complete
@@ -48,18 +28,27 @@ use Rattle.order_states.proofs.may_stand.Kinds as order-states-may-stand
 use Rattle.order_states.proofs.may_stand.Reads as order-states-may-stand-says
 use Rattle.order_states.proofs.moved.Kinds as order-states-moved
 use Rattle.order_states.proofs.moved.Reads as order-states-moved-says
-use Rattle.order_states.proofs.advance.Kinds as order-states-advance
-use Rattle.order_states.proofs.advance.Reads as order-states-advance-says
+use Rattle.order_states.proofs.stepped.Kinds as order-states-stepped
+use Rattle.order_states.proofs.stepped.Reads as order-states-stepped-says
 use Rattle.order_states.proofs.refusal_number.Kinds as order-states-refusal-number
 use Rattle.order_states.proofs.refusal_number.Reads as order-states-refusal-number-says
 use Rattle.order_states.proofs.type_at.Kinds as order-states-type-at
 use Rattle.order_states.proofs.type_at.Reads as order-states-type-at-says
+use Rattle.write_texts.proofs.put_bytes.Kinds as write-texts-put-bytes
+use Rattle.write_texts.proofs.put_bytes.Reads as write-texts-put-bytes-says
+use Rattle.write_texts.proofs.needs_quotes.Kinds as write-texts-needs-quotes
+use Rattle.write_texts.proofs.needs_quotes.Reads as write-texts-needs-quotes-says
+use Rattle.write_texts.proofs.text_len.Kinds as write-texts-text-len
+use Rattle.write_texts.proofs.text_len.Reads as write-texts-text-len-says
+use Rattle.write_texts.proofs.put_text.Kinds as write-texts-put-text
+use Rattle.write_texts.proofs.put_text.Reads as write-texts-put-text-says
+use Rattle.write_texts.proofs.padded_len.Kinds as write-texts-padded-len
+use Rattle.write_texts.proofs.padded_len.Reads as write-texts-padded-len-says
+use Rattle.write_texts.proofs.put_padded.Kinds as write-texts-put-padded
+use Rattle.write_texts.proofs.put_padded.Reads as write-texts-put-padded-says
 use Rattle.demands.specs.Tight.{Tight}
 
--- `fields`
-
-pub tight-line-fields-same : Tight 2 line-fields-same.ps line-fields-same.r line-fields-same-says.Learnt
-tight-line-fields-same κs a r q ws us e f = (e ∙ sym f, refl)
+-- `line_fields`
 
 pub tight-line-fields-is-within : Tight 0 line-fields-is-within.ps line-fields-is-within.r line-fields-is-within-says.Learnt
 tight-line-fields-is-within κs a r q ws us e f = (e ∙ sym f, refl)
@@ -67,18 +56,60 @@ tight-line-fields-is-within κs a r q ws us e f = (e ∙ sym f, refl)
 pub tight-line-fields-read-field : Tight 1 line-fields-read-field.ps line-fields-read-field.r line-fields-read-field-says.Learnt
 tight-line-fields-read-field κs a r q ws us e f = (e ∙ sym f, refl)
 
--- `spans`
+pub tight-line-fields-is-barred : Tight 1 line-fields-is-barred.ps line-fields-is-barred.r line-fields-is-barred-says.Learnt
+tight-line-fields-is-barred κs a r q ws us e f = (e ∙ sym f, refl)
 
-pub tight-rows-texts-text-is : Tight 2 rows-texts-text-is.ps rows-texts-text-is.r rows-texts-text-is-says.Learnt
-tight-rows-texts-text-is κs a r q ws us e f = (e ∙ sym f, refl)
+-- `line_rows`
 
-pub tight-rows-texts-same-texts : Tight 2 rows-texts-same-texts.ps rows-texts-same-texts.r rows-texts-same-texts-says.Learnt
-tight-rows-texts-same-texts κs a r q ws us e f = (e ∙ sym f, refl)
+pub tight-line-rows-looks-line-kind : Tight 1 line-rows-looks-line-kind.ps line-rows-looks-line-kind.r line-rows-looks-line-kind-says.Learnt
+tight-line-rows-looks-line-kind κs a r q ws us e f = (e ∙ sym f, refl)
 
-pub tight-rows-texts-hash-text : Tight 1 rows-texts-hash-text.ps rows-texts-hash-text.r rows-texts-hash-text-says.Learnt
-tight-rows-texts-hash-text κs a r q ws us e f = (e ∙ sym f, refl)
+pub tight-line-rows-columns-fill : Tight 1 line-rows-columns-fill.ps line-rows-columns-fill.r line-rows-columns-fill-says.Learnt
+tight-line-rows-columns-fill κs a r q ws us e f = (e ∙ sym f, refl)
 
--- `wording`
+-- `order_loops`
+
+pub tight-order-loops-loop-after : Tight 0 order-loops-loop-after.ps order-loops-loop-after.r order-loops-loop-after-says.Learnt
+tight-order-loops-loop-after κs a r q ws us e f = (e ∙ sym f, refl)
+
+pub tight-order-loops-complete : Tight 0 order-loops-complete.ps order-loops-complete.r order-loops-complete-says.Learnt
+tight-order-loops-complete κs a r q ws us e f = (e ∙ sym f, refl)
+
+-- `order_kinds`
+
+pub tight-order-kinds-role-of : Tight 0 order-kinds-role-of.ps order-kinds-role-of.r order-kinds-role-of-says.Learnt
+tight-order-kinds-role-of κs a r q ws us e f = (e ∙ sym f, refl)
+
+pub tight-order-kinds-data-kind : Tight 0 order-kinds-data-kind.ps order-kinds-data-kind.r order-kinds-data-kind-says.Learnt
+tight-order-kinds-data-kind κs a r q ws us e f = (e ∙ sym f, refl)
+
+pub tight-order-kinds-key-kind : Tight 0 order-kinds-key-kind.ps order-kinds-key-kind.r order-kinds-key-kind-says.Learnt
+tight-order-kinds-key-kind κs a r q ws us e f = (e ∙ sym f, refl)
+
+-- `order_states`
+
+pub tight-order-states-stages-may-open : Tight 0 order-states-stages-may-open.ps order-states-stages-may-open.r order-states-stages-may-open-says.Learnt
+tight-order-states-stages-may-open κs a r q ws us e f = (e ∙ sym f, refl)
+
+pub tight-order-states-accepting : Tight 0 order-states-accepting.ps order-states-accepting.r order-states-accepting-says.Learnt
+tight-order-states-accepting κs a r q ws us e f = (e ∙ sym f, refl)
+
+pub tight-order-states-may-stand : Tight 0 order-states-may-stand.ps order-states-may-stand.r order-states-may-stand-says.Learnt
+tight-order-states-may-stand κs a r q ws us e f = (e ∙ sym f, refl)
+
+pub tight-order-states-moved : Tight 0 order-states-moved.ps order-states-moved.r order-states-moved-says.Learnt
+tight-order-states-moved κs a r q ws us e f = (e ∙ sym f, refl)
+
+pub tight-order-states-stepped : Tight 0 order-states-stepped.ps order-states-stepped.r order-states-stepped-says.Learnt
+tight-order-states-stepped κs a r q ws us e f = (e ∙ sym f, refl)
+
+pub tight-order-states-refusal-number : Tight 0 order-states-refusal-number.ps order-states-refusal-number.r order-states-refusal-number-says.Learnt
+tight-order-states-refusal-number κs a r q ws us e f = (e ∙ sym f, refl)
+
+pub tight-order-states-type-at : Tight 0 order-states-type-at.ps order-states-type-at.r order-states-type-at-says.Learnt
+tight-order-states-type-at κs a r q ws us e f = (e ∙ sym f, refl)
+
+-- `write_texts`
 
 pub tight-write-texts-put-bytes : Tight 2 write-texts-put-bytes.ps write-texts-put-bytes.r write-texts-put-bytes-says.Learnt
 tight-write-texts-put-bytes κs a r q ws us e f = (e .next ∙ sym (f .next), λ i. ((e .is ∙ sym (f .is)) i, ws .1))
@@ -97,56 +128,3 @@ tight-write-texts-padded-len κs a r q ws us e f = (e ∙ sym f, refl)
 
 pub tight-write-texts-put-padded : Tight 1 write-texts-put-padded.ps write-texts-put-padded.r write-texts-put-padded-says.Learnt
 tight-write-texts-put-padded κs a r q ws us e f = (e .next ∙ sym (f .next), λ i. ((e .is ∙ sym (f .is)) i, ws .1))
-
--- `lines`
-
-pub tight-line-rows-looks-line-kind : Tight 1 line-rows-looks-line-kind.ps line-rows-looks-line-kind.r line-rows-looks-line-kind-says.Learnt
-tight-line-rows-looks-line-kind κs a r q ws us e f = (e ∙ sym f, refl)
-
-pub tight-line-rows-columns-fill : Tight 1 line-rows-columns-fill.ps line-rows-columns-fill.r line-rows-columns-fill-says.Learnt
-tight-line-rows-columns-fill κs a r q ws us e f = (e ∙ sym f, refl)
-
--- `loops`
-
-pub tight-order-loops-same : Tight 0 order-loops-same.ps order-loops-same.r order-loops-same-says.Learnt
-tight-order-loops-same κs a r q ws us e f = (e ∙ sym f, refl)
-
-pub tight-order-loops-loop-after : Tight 0 order-loops-loop-after.ps order-loops-loop-after.r order-loops-loop-after-says.Learnt
-tight-order-loops-loop-after κs a r q ws us e f = (e ∙ sym f, refl)
-
-pub tight-order-loops-complete : Tight 0 order-loops-complete.ps order-loops-complete.r order-loops-complete-says.Learnt
-tight-order-loops-complete κs a r q ws us e f = (e ∙ sym f, refl)
-
--- `kinds`
-
-pub tight-order-kinds-role-of : Tight 0 order-kinds-role-of.ps order-kinds-role-of.r order-kinds-role-of-says.Learnt
-tight-order-kinds-role-of κs a r q ws us e f = (e ∙ sym f, refl)
-
-pub tight-order-kinds-data-kind : Tight 0 order-kinds-data-kind.ps order-kinds-data-kind.r order-kinds-data-kind-says.Learnt
-tight-order-kinds-data-kind κs a r q ws us e f = (e ∙ sym f, refl)
-
-pub tight-order-kinds-key-kind : Tight 0 order-kinds-key-kind.ps order-kinds-key-kind.r order-kinds-key-kind-says.Learnt
-tight-order-kinds-key-kind κs a r q ws us e f = (e ∙ sym f, refl)
-
--- `states`
-
-pub tight-order-states-stages-may-open : Tight 0 order-states-stages-may-open.ps order-states-stages-may-open.r order-states-stages-may-open-says.Learnt
-tight-order-states-stages-may-open κs a r q ws us e f = (e ∙ sym f, refl)
-
-pub tight-order-states-accepting : Tight 0 order-states-accepting.ps order-states-accepting.r order-states-accepting-says.Learnt
-tight-order-states-accepting κs a r q ws us e f = (e ∙ sym f, refl)
-
-pub tight-order-states-may-stand : Tight 0 order-states-may-stand.ps order-states-may-stand.r order-states-may-stand-says.Learnt
-tight-order-states-may-stand κs a r q ws us e f = (e ∙ sym f, refl)
-
-pub tight-order-states-moved : Tight 0 order-states-moved.ps order-states-moved.r order-states-moved-says.Learnt
-tight-order-states-moved κs a r q ws us e f = (e ∙ sym f, refl)
-
-pub tight-order-states-advance : Tight 0 order-states-advance.ps order-states-advance.r order-states-advance-says.Learnt
-tight-order-states-advance κs a r q ws us e f = (e ∙ sym f, refl)
-
-pub tight-order-states-refusal-number : Tight 0 order-states-refusal-number.ps order-states-refusal-number.r order-states-refusal-number-says.Learnt
-tight-order-states-refusal-number κs a r q ws us e f = (e ∙ sym f, refl)
-
-pub tight-order-states-type-at : Tight 0 order-states-type-at.ps order-states-type-at.r order-states-type-at-says.Learnt
-tight-order-states-type-at κs a r q ws us e f = (e ∙ sym f, refl)

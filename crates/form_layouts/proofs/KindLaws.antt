@@ -8,15 +8,18 @@ use mathlib.Core.Bool.{Bool, true, false, not, _&&_, false≢true}
 use native.Mathlib.Omega.{arith}
 use borrow.Author.Tests.{le-leb, lt-leb, leb-true, leb-false, ne-eqb, lt-ltb, le-ltb}
 use lib.Dec.{leb, eqb}
-use lib.ListN.{length, getD}
-use Rattle.text.proofs.Lists.{and-left, and-right}
-use Rattle.text.proofs.Tables.{allBelow, below-all, Missed, past}
-use Rattle.form.proofs.CompareLaws.{same-eq}
+use lib.ListN.{length, getD, drop}
+use lib.Seq.{drop-cons}
+use native.Mathlib.Numerals.{add-one}
+use Rattle.rows.proofs.EachKind.{each-kind}
+use Rattle.basics.proofs.Bytes.{bytes-true}
+use Rattle.basics.proofs.Tables.{allBelow, below-all, Missed, past}
+use Rattle.basics.proofs.Bools.{and-left, and-right, sameFlag, flag-eq}
 use Rattle.law.specs.Sections.{sectionNames, sections}
 use Rattle.law.specs.Words.{sameBytes, wordAt}
-use Rattle.law.specs.Kinds.{sectionOf, lineOf}
+use Rattle.law.specs.Kinds.{sectionOf, lineOf, lastKind}
 use Rattle.law.specs.Layouts.{layoutOf, typesOf}
-use Rattle.form_layouts.specs.Letters.{letterAt, rowOf, rowFor, widths, isKind, layoutTable, lineTable, letterOf, letters, typeAt, limitAt, wordsAt, plainNamed, typeNamed}
+use Rattle.form_layouts.specs.Letters.{letterAt, rowOf, rowFor, widths, isKind, layoutTable, lineTable, letterOf, letters, typeAt, limitAt, wordsAt, plainNamed, typeNamed, widthOf}
 use Rattle.law.specs.declared.Words.{Words}
 use Rattle.law.specs.declared.Words.the-variants.{FileTypes, Units, Owners, Faces, Sides, Layers, Plates, Statuses}
 use Rattle.law.specs.declared.Limit.{Limit}
@@ -27,22 +30,13 @@ use Rattle.law.specs.declared.Rules.{Rules}
 use Rattle.law.specs.declared.Rules.the-variants.{Idf3}
 
 -- ten kinds to a section, and none above
-pub in-section : (v : Rules) (k : ℕ) → k ≤ 159 → k / 10 ≡ sectionOf v k
+pub in-section : (v : Rules) (k : ℕ) → k ≤ lastKind → k / 10 ≡ sectionOf v k
 unfolding sectionOf
-in-section Idf3 k h = rw (le-leb k 159 h)
+in-section Idf3 k h = rw (le-leb k lastKind h)
 
-pub no-section : (v : Rules) (k : ℕ) → 159 < k → 0 ≡ sectionOf v k
+pub no-section : (v : Rules) (k : ℕ) → lastKind < k → 0 ≡ sectionOf v k
 unfolding sectionOf
-no-section Idf3 k h = rw (lt-leb k 159 h)
-
-abbrev sameFlag : Bool → Bool → Bool
-sameFlag true b = b
-sameFlag false b = not b
-
-flag-eq : (a b : Bool) → sameFlag a b ≡ true → a ≡ b
-flag-eq true b h = sym h
-flag-eq false true h = absurd (false≢true h)
-flag-eq false false h = refl
+no-section Idf3 k h = rw (lt-leb k lastKind h)
 
 -- what the tables say of a kind: its letter has a row, the row is that of its types, and @ alone is no kind
 abbrev letter-right : Rules → ℕ → Bool
@@ -57,20 +51,16 @@ kind-right v k = sameFlag (not (eqb (letterAt v k) 64)) (isKind v k)
 abbrev right : Rules → ℕ → Bool
 right v k = letter-right v k && (row-right v k && kind-right v k)
 
-table-right : (v : Rules) → allBelow 160 (right v) ≡ true
-unfolding letterAt rowOf rowFor typesOf layoutOf isKind sectionOf lineOf sections sectionNames wordAt widths layoutTable lineTable sameBytes
+table-right : (v : Rules) → allBelow (suc lastKind) (right v) ≡ true
+unfolding letterAt rowOf rowFor typesOf layoutOf isKind sectionOf lineOf sections sectionNames wordAt layoutTable lineTable sameBytes
 table-right Idf3 = refl
 
-beyond : (v : Rules) (k : ℕ) → 159 < k → right v k ≡ true
-unfolding letterAt rowOf rowFor typesOf layoutOf isKind sectionOf lineOf sections widths layoutTable sameBytes
-beyond Idf3 k h = rw (lt-leb k 159 h)
+beyond : (v : Rules) (k : ℕ) → leb k lastKind ≡ false → right v k ≡ true
+unfolding letterAt rowOf rowFor typesOf layoutOf isKind sectionOf lineOf sections layoutTable sameBytes
+beyond Idf3 k h = rw h
 
 all-right : (v : Rules) (k : ℕ) → right v k ≡ true
-all-right v k = go (leb k 159) refl
-  where
-    go : (t : Bool) → leb k 159 ≡ t → right v k ≡ true
-    go true e = below-all 160 (right v) (table-right v) k (omega (arith, leb-true k 159 e))
-    go false e = beyond v k (omega (arith, leb-false k 159 e))
+all-right v = each-kind (right v) (table-right v) (beyond v)
 
 pub letter-low : (v : Rules) (k : ℕ) → 64 ≤ letterAt v k
 letter-low v k = leb-true 64 (letterAt v k) (and-left (leb 64 (letterAt v k)) _ (and-left (letter-right v k) _ (all-right v k)))
@@ -79,7 +69,7 @@ pub letter-high : (v : Rules) (k : ℕ) → letterAt v k ≤ 80
 letter-high v k = leb-true (letterAt v k) 80 (and-right (leb 64 (letterAt v k)) _ (and-left (letter-right v k) _ (all-right v k)))
 
 pub row-is : (v : Rules) (k : ℕ) → rowOf v k ≡ rowFor (typesOf v k)
-row-is v k = same-eq (rowOf v k) (rowFor (typesOf v k)) (and-left (row-right v k) _ (and-right (letter-right v k) _ (all-right v k)))
+row-is v k = bytes-true (rowOf v k) (rowFor (typesOf v k)) (and-left (row-right v k) _ (and-right (letter-right v k) _ (all-right v k)))
 
 pub kind-is : (v : Rules) (k : ℕ) → not (eqb (letterAt v k) 64) ≡ isKind v k
 kind-is v k = flag-eq _ _ (and-right (row-right v k) _ (and-right (letter-right v k) _ (all-right v k)))
@@ -96,26 +86,16 @@ module _ (v : Rules) (k : ℕ) (row : List ℕ) (e : row ≡ rowOf v k) where
   unfolding rowFor
   digit-one = rw same
 
-  digit-two : getD row 1 0 ≡ 48 + widths (typesOf v k)
-  unfolding rowFor
-  digit-two = rw same
-
   pub count-from : 48 ≤ getD row 0 0
   count-from = omega (arith, digit-one)
 
   pub count-is : getD row 0 0 - 48 ≡ length (typesOf v k)
   count-is = omega (arith, digit-one)
 
-  pub width-from : 48 ≤ getD row 1 0
-  width-from = omega (arith, digit-two)
-
-  pub width-is : getD row 1 0 - 48 ≡ widths (typesOf v k)
-  width-is = omega (arith, digit-two)
-
   -- field i
-  pub type-letter : (i : ℕ) → i < length (typesOf v k) → i < 7 → getD row (i + 2) 0 ≡ letterOf (typeAt (typesOf v k) i)
+  pub type-letter : (i : ℕ) → i < length (typesOf v k) → i < 7 → getD row (i + 1) 0 ≡ letterOf (typeAt (typesOf v k) i)
   unfolding rowFor
-  type-letter i h l = let z : i + 2 ≡ suc (suc i) = omega arith in rw (same, z) (at 7 (typesOf v k) i h l)
+  type-letter i h l = let z : i + 1 ≡ suc i = omega arith in rw (same, z) (at 7 (typesOf v k) i h l)
     where
       at : (n : ℕ) (ts : List FieldType) (i : ℕ) → i < length ts → i < n → getD (letters n ts) i 0 ≡ letterOf (typeAt ts i)
       at zero ts i h l = absurd (omega arith)
@@ -127,20 +107,16 @@ module _ (v : Rules) (k : ℕ) (row : List ℕ) (e : row ≡ rowOf v k) where
 short : Rules → ℕ → Bool
 short v k = leb (length (typesOf v k)) 7 && leb (widths (typesOf v k)) 9
 
-short-table : (v : Rules) → allBelow 160 (short v) ≡ true
+short-table : (v : Rules) → allBelow (suc lastKind) (short v) ≡ true
 unfolding short typesOf layoutOf sectionOf lineOf sections sectionNames wordAt widths
 short-table Idf3 = refl
 
-short-none : (v : Rules) (k : ℕ) → 159 < k → short v k ≡ true
+short-none : (v : Rules) (k : ℕ) → leb k lastKind ≡ false → short v k ≡ true
 unfolding short typesOf layoutOf sectionOf widths
-short-none Idf3 k h = rw (lt-leb k 159 h)
+short-none Idf3 k h = rw h
 
 all-short : (v : Rules) (k : ℕ) → short v k ≡ true
-all-short v k = go (leb k 159) refl
-  where
-    go : (t : Bool) → leb k 159 ≡ t → short v k ≡ true
-    go true e = below-all 160 (short v) (short-table v) k (omega (arith, leb-true k 159 e))
-    go false e = short-none v k (omega (arith, leb-false k 159 e))
+all-short v = each-kind (short v) (short-table v) (short-none v)
 
 pub seven : (v : Rules) (k : ℕ) → length (typesOf v k) ≤ 7
 unfolding short
@@ -207,10 +183,16 @@ module _ (b : ℕ) where
   unfolding typeNamed
   named-word l h k e = rw (le-ltb b 97 h, le-ltb b 103 k, e)
 
--- so few fields and columns fit
+-- so few fields are counted in a word
 module _ (v : Rules) (k : ℕ) (row : List ℕ) (e : row ≡ rowOf v k) where
   pub count-fits : Fits w64 (getD row 0 0 - 48)
   count-fits = omega (arith, count-is v k row e, seven v k)
 
-  pub width-fits : Fits w64 (getD row 1 0 - 48)
-  width-fits = omega (arith, width-is v k row e, nine v k)
+-- field i of a layout in front of those behind it, and the columns that they fill
+module _ (ts : List FieldType) (i : ℕ) (h : i < length ts) where
+  pub type-here : drop i ts ≡ typeAt ts i ∷ drop (i + 1) ts
+  type-here = rw (add-one i) (drop-cons ts i T h)
+
+  pub widths-here : widths (drop i ts) ≡ widthOf (typeAt ts i) + widths (drop (i + 1) ts)
+  unfolding widths
+  widths-here = rw type-here

@@ -5,6 +5,7 @@ use mathlib.Core.Option.{Option, none, some}
 use mathlib.Core.Bool.{Bool, true, false, cond}
 use lib.Dec.{leb, ltb, eqb}
 use lib.ListN.{length, getD}
+use Rattle.law.specs.Kinds.{lastKind}
 use Rattle.law.specs.Bytes.{ascii}
 use Rattle.law.specs.Layouts.{Layout, layoutOf}
 use Rattle.law.specs.declared.Rules.{Rules}
@@ -97,31 +98,31 @@ letters zero ts = []
 letters (suc n) [] = 32 ∷ letters n []
 letters (suc n) (t ∷ ts) = letterOf t ∷ letters n ts
 
--- a layout's row: a digit for the number of its fields, one for that of its columns, and its letters
+-- a layout's row: a digit for the number of its fields, and its letters
 unfoldable pub rowFor : List FieldType → List ℕ
-rowFor ts = (48 + length ts) ∷ (48 + widths ts) ∷ letters 7 ts
+rowFor ts = (48 + length ts) ∷ letters 7 ts
 
 -- tables
 
 unfoldable pub layoutTable : List (List ℕ)
 layoutTable =
-    ascii "00       "
-    ∷ ascii "00       "
-    ∷ ascii "11i      "
-    ∷ ascii "57gfTDI  "
-    ∷ ascii "23Th     "
-    ∷ ascii "11a      "
-    ∷ ascii "34Tbj    "
-    ∷ ascii "11l      "
-    ∷ ascii "22kb     "
-    ∷ ascii "23kT     "
-    ∷ ascii "79caamTTi"
-    ∷ ascii "56aaaaT  "
-    ∷ ascii "36TTR    "
-    ∷ ascii "66aabejn "
-    ∷ ascii "46TTha   "
-    ∷ ascii "44Iaad   "
-    ∷ ascii "24TT     "
+    ascii "0       "
+    ∷ ascii "0       "
+    ∷ ascii "1i      "
+    ∷ ascii "5gfTDI  "
+    ∷ ascii "2Th     "
+    ∷ ascii "1a      "
+    ∷ ascii "3Tbj    "
+    ∷ ascii "1l      "
+    ∷ ascii "2kb     "
+    ∷ ascii "2kT     "
+    ∷ ascii "7caamTTi"
+    ∷ ascii "5aaaaT  "
+    ∷ ascii "3TTR    "
+    ∷ ascii "6aabejn "
+    ∷ ascii "4TTha   "
+    ∷ ascii "4Iaad   "
+    ∷ ascii "2TT     "
     ∷ []
 
 unfoldable pub lineTable : List (List ℕ)
@@ -150,7 +151,7 @@ lineLetter s n = getD (getD lineTable s []) n 0
 
 -- the layout of a kind, by its letter: @ of a kind that no section has
 unfoldable pub letterAt : Rules → ℕ → ℕ
-letterAt v k = cond (leb k 159) (getD (getD lineTable (k / 10) []) (k % 10) 0) 64
+letterAt v k = cond (leb k lastKind) (getD (getD lineTable (k / 10) []) (k % 10) 0) 64
 
 -- and its row
 unfoldable pub rowOf : Rules → ℕ → List ℕ

@@ -1,57 +1,58 @@
-// The layout of each kind of line, as a table of letters: how many fields, how many columns they fill, and the type of each.
+// The layout of each kind of line, as a table of letters: how many fields, and the type of each.
 use law::FieldType;
 use law::Limit;
 use law::Rules;
 use law::Words;
+use rows::LAST_KIND;
 ghost use mathlib.Core.Path.{_≡_};
 ghost use Prim.Native.Nat.{_+_, _≤_, _<_};
 ghost use lib.ListN.{length};
 ghost use Rattle.law.specs.Layouts.{typesOf};
 ghost use Rattle.law.specs.Kinds.{sectionOf};
-ghost use Rattle.form_layouts.specs.Letters.{lineLetter, letterAt, rowOf, isKind, typeAt, limitAt, wordsAt, plainNamed, typeNamed, widthOf, widths};
+ghost use Rattle.form_layouts.specs.Letters.{lineLetter, letterAt, rowOf, isKind, typeAt, limitAt, wordsAt, plainNamed, typeNamed, widthOf};
 
-// The row of each layout: how many fields, how many columns they fill, and the letter of each field's type.
+// The row of each layout: how many fields, and the letter of each field's type.
 // Letters of types: T text, R reference, D date, I integer; numbers, in the order of their limits: a length, b length from zero on,
 // c length above zero, d included angle, e rotation, f version; words, in the order of their lists: g file types, h units, i owners,
 // j faces, k sides, l layers, m plates, n statuses.
-const NO_FIELDS: [u8; 9] = *b"00       "; // A a keyword alone, and @ no such kind
+const NO_FIELDS: [u8; 8] = *b"0       "; // A a keyword alone, and @ no such kind
 
-const OWNER: [u8; 9] = *b"11i      "; // B an opening line and its owner
+const OWNER: [u8; 8] = *b"1i      "; // B an opening line and its owner
 
-const TITLE: [u8; 9] = *b"57gfTDI  "; // C file type, version, system, date, file version number
+const TITLE: [u8; 8] = *b"5gfTDI  "; // C file type, version, system, date, file version number
 
-const NAME: [u8; 9] = *b"23Th     "; // D name, unit
+const NAME: [u8; 8] = *b"2Th     "; // D name, unit
 
-const THICKNESS: [u8; 9] = *b"11a      "; // E thickness
+const THICKNESS: [u8; 8] = *b"1a      "; // E thickness
 
-const OTHER: [u8; 9] = *b"34Tbj    "; // F identifier, thickness, side
+const OTHER: [u8; 8] = *b"3Tbj    "; // F identifier, thickness, side
 
-const LAYERS: [u8; 9] = *b"11l      "; // G layers
+const LAYERS: [u8; 8] = *b"1l      "; // G layers
 
-const HEIGHT: [u8; 9] = *b"22kb     "; // H side, height
+const HEIGHT: [u8; 8] = *b"2kb     "; // H side, height
 
-const GROUP: [u8; 9] = *b"23kT     "; // I side, group
+const GROUP: [u8; 8] = *b"2kT     "; // I side, group
 
-const HOLE: [u8; 9] = *b"79caamTTi"; // J diameter, x, y, plating, part, hole type, owner
+const HOLE: [u8; 8] = *b"7caamTTi"; // J diameter, x, y, plating, part, hole type, owner
 
-const NOTE: [u8; 9] = *b"56aaaaT  "; // K x, y, height, length, text
+const NOTE: [u8; 8] = *b"5aaaaT  "; // K x, y, height, length, text
 
-const PART: [u8; 9] = *b"36TTR    "; // L package, part number, reference
+const PART: [u8; 8] = *b"3TTR    "; // L package, part number, reference
 
-const POSITION: [u8; 9] = *b"66aabejn "; // M x, y, offset, rotation, side, status
+const POSITION: [u8; 8] = *b"6aabejn "; // M x, y, offset, rotation, side, status
 
-const COMPONENT: [u8; 9] = *b"46TTha   "; // N geometry, part, unit, height
+const COMPONENT: [u8; 8] = *b"4TTha   "; // N geometry, part, unit, height
 
-const POINT: [u8; 9] = *b"44Iaad   "; // O label, x, y, angle
+const POINT: [u8; 8] = *b"4Iaad   "; // O label, x, y, angle
 
-const PROPERTY: [u8; 9] = *b"24TT     "; // P property: name, value
+const PROPERTY: [u8; 8] = *b"2TT     "; // P property: name, value
 
 // The section of a row's kind, 0 where no section has it.
 pub fn section_of(v: Rules, kind: u64) -> u64
     ensures { λ r. ⌜ r ≡ sectionOf v kind ⌝ }
 {
     match v {
-        Rules::Idf3 => { if kind <= 159 { kind / 10 } else { 0 } }
+        Rules::Idf3 => { if kind <= LAST_KIND { kind / 10 } else { 0 } }
     }
 }
 
@@ -138,7 +139,7 @@ fn closing_letter(s: u64) -> u8
 fn letter_at(v: Rules, kind: u64) -> u8
     ensures { λ r. ⌜ r ≡ letterAt v kind ⌝ }
 {
-    if 159 < kind {
+    if LAST_KIND < kind {
         return 64;
     }
     let s = kind / 10;
@@ -153,7 +154,7 @@ fn letter_at(v: Rules, kind: u64) -> u8
 }
 
 // The row of a kind's layout.
-pub fn row_of(v: Rules, kind: u64) -> [u8; 9]
+pub fn row_of(v: Rules, kind: u64) -> [u8; 8]
     ensures { λ r. ⌜ r ≡ rowOf v kind ⌝ }
 {
     match letter_at(v, kind) {
@@ -190,14 +191,6 @@ pub fn field_count(v: Rules, kind: u64) -> usize
 {
     let row = row_of(v, kind);
     (row[0] - 48) as usize
-}
-
-// How many columns of a row they fill, the kind's own left off.
-pub fn column_count(v: Rules, kind: u64) -> usize
-    ensures { λ r. ⌜ r ≡ widths (typesOf v kind) ⌝ }
-{
-    let row = row_of(v, kind);
-    (row[1] - 48) as usize
 }
 
 // How many columns of a row a field fills.
@@ -270,9 +263,9 @@ fn type_of(letter: u8) -> FieldType
 }
 
 // The type of a field of a line of a kind, fields counted from 0, by the row of the kind's layout.
-pub fn type_in(v: Rules, kind: u64, row: [u8; 9], i: usize) -> FieldType
+pub fn field_type(v: Rules, kind: u64, row: [u8; 8], i: usize) -> FieldType
     requires { ⌜ (row ≡ rowOf v kind) × (i < length (typesOf v kind)) ⌝ }
     ensures { λ r. ⌜ r ≡ typeAt (typesOf v kind) i ⌝ }
 {
-    type_of(row[i + 2])
+    type_of(row[i + 1])
 }

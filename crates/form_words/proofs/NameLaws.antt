@@ -12,16 +12,17 @@ use borrow.Author.Tests.{not-true, not-false, eqb-true, eq-eqb, ne-eqb, leb-true
 use lib.Dec.{eqb, leb}
 use lib.ListN.{length, take, drop, getD}
 use lib.Seq.{drop-cons}
+use Rattle.basics.proofs.Tables.{allBelow, below-all}
+use Rattle.basics.proofs.Bools.{and-left}
+use Rattle.basics.proofs.Lists.{rest}
 use Rattle.law.specs.Bytes.{ascii, begins}
-use Rattle.text.proofs.Lists.{rest, and-left}
-use Rattle.text.proofs.Tables.{allBelow, below-all}
 use Rattle.law.specs.Words.{wordsOf, propWord, endWord, sameBytes, isSmall}
 use Rattle.law.specs.Sections.{sectionNames, sections}
 use Rattle.form.specs.Compare.{up, placeOf, capital, folded}
 use Rattle.form.specs.Reading.{keyFrom, keyBy, keywordOf}
 use Rattle.form_words.specs.Padded.{keyed, headOf, trimmed, matched, found, rowTable, sought, spanOf, endsName, closingBy, closingOf}
-use Rattle.form_words.specs.declared.Found.{Found}
-use Rattle.form_words.specs.declared.Found.the-variants.{At, Nowhere}
+use Rattle.form_words.specs.declared.WordAnswer.{WordAnswer}
+use Rattle.form_words.specs.declared.WordAnswer.the-variants.{At, Nowhere}
 use Rattle.form.specs.declared.Keyword.{Keyword}
 use Rattle.form.specs.declared.Keyword.the-variants.{Opening, Closing, Unknown}
 use Rattle.form_words.specs.declared.Span.{Span}
@@ -48,7 +49,7 @@ module _ (t : List (List ℕ)) (f n i : ℕ) (h : f + n ≤ length t) where
       rw (e, d)
 
   -- a loop that seeks bytes among them, of which the whole says g
-  module _ (fold : Bool) (s : List ℕ) {g : Found} (inv : sought fold i (take (n - i) (drop (f + i) t)) s ≡ g) where
+  module _ (fold : Bool) (s : List ℕ) {g : WordAnswer} (inv : sought fold i (take (n - i) (drop (f + i) t)) s ≡ g) where
     module _ (k : i < n) (r : Bool) (m : r ≡ matched fold (getD t (f + i) []) s) where
       here : sought fold i (take (n - i) (drop (f + i) t)) s ≡ cond r (At i) (sought fold (i + 1) (take (n - (i + 1)) (drop (f + (i + 1)) t)) s)
       unfolding sought
@@ -98,7 +99,7 @@ pub seek-start : (t : List (List ℕ)) (f n : ℕ) (fold : Bool) (s : List ℕ) 
 seek-start t f n fold s = let a : n - 0 ≡ n = omega arith in let b : f + 0 ≡ f = omega arith in rw (a, b)
 
 -- what is sought among padded rows is sought among the words that they hold
-abbrev foundFrom : ℕ → Option ℕ → Found
+abbrev foundFrom : ℕ → Option ℕ → WordAnswer
 foundFrom k none = Nowhere
 foundFrom k (some n) = At (k + n)
 
@@ -144,12 +145,12 @@ span-within Idf3 Statuses = omega arith
 -- Keywords
 
 -- rows sought with a prefix before what they hold
-unfoldable namesAt : List ℕ → ℕ → List (List ℕ) → List ℕ → Found
+unfoldable namesAt : List ℕ → ℕ → List (List ℕ) → List ℕ → WordAnswer
 namesAt p n [] s = Nowhere
 namesAt p n (r ∷ rows) s = cond (sameBytes (p ++ trimmed r) s) (At n) (namesAt p (suc n) rows s)
 
 -- sections are numbered from 1, rows from 0
-abbrev Agree : Option ℕ → Found → Type 0
+abbrev Agree : Option ℕ → WordAnswer → Type 0
 Agree none Nowhere = Unit {0}
 Agree none (At n) = ⊥
 Agree (some m) Nowhere = ⊥
@@ -217,16 +218,16 @@ close-names n (r ∷ rows) t =
     rw (end-splits (trimmed r) t, close-names (suc n) rows t, matched-is true r (drop 4 t), key-folds (drop 4 t))
     (go (endsName t) (sameBytes (trimmed r) (folded (drop 4 t))) (sought true (suc n) rows (drop 4 t)))
   where
-    go : (x y : Bool) (f : Found) → cond (x && y) (At n) (cond x f Nowhere) ≡ cond x (cond y (At n) f) Nowhere
+    go : (x y : Bool) (f : WordAnswer) → cond (x && y) (At n) (cond x f Nowhere) ≡ cond x (cond y (At n) f) Nowhere
     go true y f = refl
     go false y f = refl
 
 -- a keyword by what is found behind its period, and behind END_
-abbrev openingBy : Found → Found → Keyword
+abbrev openingBy : WordAnswer → WordAnswer → Keyword
 openingBy (At n) g = Opening (n + 1)
 openingBy Nowhere g = closingBy g
 
-by-names : (a b : Option ℕ) (f g : Found) → Agree a f → Agree b g → keyBy a b ≡ openingBy f g
+by-names : (a b : Option ℕ) (f g : WordAnswer) → Agree a f → Agree b g → keyBy a b ≡ openingBy f g
 by-names none none Nowhere Nowhere p q = refl
 by-names none none Nowhere (At n) p q = absurd q
 by-names none none (At n) g p q = absurd p
@@ -254,7 +255,7 @@ unfolding begins closingOf
 closed [] h e = absurd (false≢true h)
 closed (b ∷ t) h e = rw (eqb-true b 46 h) (keyword-is t ∙ rw e (go (endsName t) (sought true 0 (take 15 rowTable) (drop 4 t))))
   where
-    go : (x : Bool) (f : Found) → openingBy Nowhere (cond x f Nowhere) ≡ cond x (closingBy f) Unknown
+    go : (x : Bool) (f : WordAnswer) → openingBy Nowhere (cond x f Nowhere) ≡ cond x (closingBy f) Unknown
     go true Nowhere = refl
     go true (At n) = refl
     go false f = refl
@@ -289,7 +290,7 @@ module _ (s : List ℕ) (r : Bool) (e : r ≡ begins 46 s) where
   pub key-none : not r ≡ true → Unknown ≡ keywordOf (folded s)
   key-none h = sym (no-period s (sym e ∙ not-true r h))
 
-  module _ (h : not r ≡ false) (f : Found) (m : f ≡ sought true 0 (take 15 (drop 0 rowTable)) (take (length s - 1) (drop 1 s))) where
+  module _ (h : not r ≡ false) (f : WordAnswer) (m : f ≡ sought true 0 (take 15 (drop 0 rowTable)) (take (length s - 1) (drop 1 s))) where
     pub key-open : (n : ℕ) → f ≡ At n → Opening (n + 1) ≡ keywordOf (folded s)
     key-open n k = sym (opened s n (sym e ∙ not-false r h) (sym (rw rest at m) ∙ k))
 
@@ -310,7 +311,7 @@ sought-below fold k (r ∷ rows) s n e = go (matched fold r s) e (sought-below f
     go false e ih = let h = ih e in omega arith
 
 -- a section's number fits, and a name behind END_ has four bytes before it
-pub number-fits : (s : List ℕ) (f : Found) (n : ℕ) → f ≡ sought true 0 (take 15 (drop 0 rowTable)) s → f ≡ At n → Fits w64 (n + 1)
+pub number-fits : (s : List ℕ) (f : WordAnswer) (n : ℕ) → f ≡ sought true 0 (take 15 (drop 0 rowTable)) s → f ≡ At n → Fits w64 (n + 1)
 unfolding rowTable
 number-fits s f n e h = omega (arith, sought-below true 0 (take 15 (drop 0 rowTable)) s n (sym e ∙ h))
 
@@ -333,7 +334,7 @@ module _ (s : List ℕ) (t : Bool) (e : t ≡ endsName s) where
   unfolding closingOf
   close-not h = rw (sym e ∙ not-true t h)
 
-  module _ (h : not t ≡ false) (f : Found) (m : f ≡ sought true 0 (take 15 (drop 0 rowTable)) (take (length s - 4) (drop 4 s))) where
+  module _ (h : not t ≡ false) (f : WordAnswer) (m : f ≡ sought true 0 (take 15 (drop 0 rowTable)) (take (length s - 4) (drop 4 s))) where
     closing-is : closingOf s ≡ closingBy f
     unfolding closingOf
     closing-is = rw (sym e ∙ not-false t h) (ap closingBy (sym (rw rest at m)))
@@ -349,7 +350,7 @@ module _ (v : Rules) (l : Words) (r : Span) (e : r ≡ spanOf v l) where
   pub span-room : r .first + r .count ≤ 39
   span-room = rw e (span-within v l)
 
-  pub place-found : (s : List ℕ) (f : Found) → f ≡ sought false 0 (take (r .count) (drop (r .first) rowTable)) s → f ≡ found (placeOf (wordsOf v l) s)
+  pub place-found : (s : List ℕ) (f : WordAnswer) → f ≡ sought false 0 (take (r .count) (drop (r .first) rowTable)) s → f ≡ found (placeOf (wordsOf v l) s)
   place-found s f m = (rw e at m) ∙ place-is v l s
 
 pub prop-is : (s : List ℕ) (r : Bool) → r ≡ matched false (ascii "PROP            ") s → r ≡ sameBytes propWord s

@@ -7,7 +7,7 @@ use native.Mathlib.Omega.{arith}
 use borrow.Author.Tests.{ne-eqb, not-true}
 use lib.Dec.{eqb}
 use lib.ListN.{length, drop, getD}
-use Rattle.text.proofs.Lists.{at-cons, at-end}
+use Rattle.basics.proofs.Lists.{at-cons, at-end}
 use Rattle.law.specs.Words.{sameBytes}
 use Rattle.form.specs.Compare.{folded}
 use Rattle.form_words.specs.Padded.{keyed, headOf, trimmed, matched}

@@ -9,7 +9,8 @@ use mir.Val.{Fits}
 use borrow.Author.Tests.{lt-ltb, le-ltb, ltb-true, ltb-false, eq-eqb, ne-eqb}
 use lib.Dec.{ltb}
 use lib.ListN.{length, getD}
-use Rattle.text.proofs.Tables.{allBelow, below-all}
+use Rattle.basics.proofs.Bytes.{bytes-true}
+use Rattle.basics.proofs.Tables.{allBelow, below-all}
 use Rattle.law.specs.Words.{wordsOf, sameBytes, wordAt}
 use Rattle.law.specs.Sections.{sectionNames, sections}
 use Rattle.form_words.specs.Padded.{trimmed, rowTable, spanOf, blankRow, wordRow, nameRow}
@@ -20,7 +21,6 @@ use Rattle.law.specs.declared.Words.the-variants.{FileTypes, Units, Owners, Fac
 use Rattle.form_words.specs.declared.Span.{Span}
 use Rattle.law.specs.Layouts.{openWord}
 use Rattle.form_words.proofs.NameLaws.{span-within}
-use Rattle.form.proofs.CompareLaws.{same-eq}
 
 -- as the code leaves them
 module _ (v : Rules) (l : Words) (n : ℕ) (s : Span) (e : s ≡ spanOf v l) where
@@ -94,7 +94,7 @@ unfolding wordRow
 word-held v l n = go (ltb n (spanOf v l .count)) refl
   where
     go : (b : Bool) → ltb n (spanOf v l .count) ≡ b → trimmed (cond b (getD rowTable (spanOf v l .first + n) []) blankRow) ≡ wordAt (wordsOf v l) n
-    go true h = same-eq _ _ (below-all (spanOf v l .count) (holds v l) (all-hold v l) n (ltb-true n (spanOf v l .count) h))
+    go true h = bytes-true _ _ (below-all (spanOf v l .count) (holds v l) (all-hold v l) n (ltb-true n (spanOf v l .count) h))
     go false h = blank-empty ∙ sym (word-past (wordsOf v l) n (let k = ltb-false n (spanOf v l .count) h in omega (arith, words-many v l)))
 
 names-held : allBelow 15 (λ n. sameBytes (trimmed (getD rowTable n [])) (wordAt sectionNames n)) ≡ true
@@ -115,4 +115,4 @@ name-held (suc n) = rw (ne-eqb (suc n) 0 (λ h. omega arith)) (go (ltb 15 (suc n
     go false h =
         let k = ltb-false 15 (suc n) h in
         let z : suc n - 1 ≡ n = omega arith in
-        rw z (same-eq _ _ (below-all 15 (λ m. sameBytes (trimmed (getD rowTable m [])) (wordAt sectionNames m)) names-held n (omega arith)))
+        rw z (bytes-true _ _ (below-all 15 (λ m. sameBytes (trimmed (getD rowTable m [])) (wordAt sectionNames m)) names-held n (omega arith)))

@@ -7,8 +7,8 @@ use lib.Dec.{ltb, eqb}
 use lib.ListN.{getD, take, drop}
 use Rattle.law.specs.Bytes.{ascii}
 use Rattle.form.specs.Compare.{capital}
-use Rattle.form_words.specs.declared.Found.{Found}
-use Rattle.form_words.specs.declared.Found.the-variants.{At, Nowhere}
+use Rattle.form_words.specs.declared.WordAnswer.{WordAnswer}
+use Rattle.form_words.specs.declared.WordAnswer.the-variants.{At, Nowhere}
 use Rattle.form.specs.declared.Keyword.{Keyword}
 use Rattle.form.specs.declared.Keyword.the-variants.{Closing, Unknown}
 use Rattle.form_words.specs.declared.Span.{Span}
@@ -39,7 +39,7 @@ abbrev pub headOf : Bool → List ℕ → ℕ
 headOf fold [] = 0
 headOf fold (b ∷ s) = keyed fold b
 
-abbrev pub found : Option ℕ → Found
+abbrev pub found : Option ℕ → WordAnswer
 found none = Nowhere
 found (some n) = At n
 
@@ -88,7 +88,7 @@ rowTable =
     ∷ []
 
 -- the number from n on of the first row that matches
-unfoldable pub sought : Bool → ℕ → List (List ℕ) → List ℕ → Found
+unfoldable pub sought : Bool → ℕ → List (List ℕ) → List ℕ → WordAnswer
 sought fold n [] s = Nowhere
 sought fold n (r ∷ rows) s = cond (matched fold r s) (At n) (sought fold (suc n) rows s)
 
@@ -122,7 +122,7 @@ endsName (a ∷ b ∷ []) = false
 endsName (a ∷ []) = false
 endsName [] = false
 
-abbrev pub closingBy : Found → Keyword
+abbrev pub closingBy : WordAnswer → Keyword
 closingBy (At n) = Closing (n + 1)
 closingBy Nowhere = Unknown
 

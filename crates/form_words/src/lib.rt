@@ -15,7 +15,7 @@ ghost use Rattle.form.specs.Reading.{keywordOf};
 ghost use Rattle.form_words.specs.Padded.{keyed, matched, headOf, rowTable, sought, found, spanOf, blankRow, wordRow, nameRow, endsName, closingOf};
 
 // The place of a word in its list, from 0.
-pub enum Found {
+pub enum WordAnswer {
     At(u64),
     Nowhere,
 }
@@ -83,7 +83,7 @@ fn is_row(i: usize, b: u8, s: &[u8], fold: bool) -> bool
 }
 
 // The place from 0 of the bytes among some rows of the table.
-fn seek(first: usize, count: usize, s: &[u8], fold: bool) -> Found
+fn seek(first: usize, count: usize, s: &[u8], fold: bool) -> WordAnswer
     requires { ⌜ first + count ≤ 39 ⌝ }
     ensures { λ r. ⌜ r ≡ sought fold 0 (take count (drop first rowTable)) (now (s .entry)) ⌝ }
 {
@@ -91,11 +91,11 @@ fn seek(first: usize, count: usize, s: &[u8], fold: bool) -> Found
     let mut i = 0;
     while i < count {
         if is_row(first + i, b, s, fold) {
-            return Found::At(i as u64);
+            return WordAnswer::At(i as u64);
         }
         i += 1;
     }
-    Found::Nowhere
+    WordAnswer::Nowhere
 }
 
 // Where a list of words stands in the table.
@@ -141,7 +141,7 @@ fn rows_of(v: Rules, l: Words) -> Span
 }
 
 // The place of a bare word in its list.
-pub fn place_of(v: Rules, l: Words, s: &[u8]) -> Found
+pub fn place_of(v: Rules, l: Words, s: &[u8]) -> WordAnswer
     ensures { λ r. ⌜ r ≡ found (placeOf (wordsOf v l) (now (s .entry))) ⌝ }
 {
     let rows = rows_of(v, l);
@@ -191,7 +191,7 @@ pub fn is_prop(s: &[u8]) -> bool
 }
 
 // The section that bytes name, in any letter case.
-fn section_named(s: &[u8]) -> Found
+fn section_named(s: &[u8]) -> WordAnswer
     ensures { λ r. ⌜ r ≡ sought true 0 (take 15 (drop 0 rowTable)) (now (s .entry)) ⌝ }
 {
     seek(0, 15, s, true)
@@ -216,8 +216,8 @@ fn closing(s: &[u8]) -> Keyword
         return Keyword::Unknown;
     }
     match section_named(&s[4..]) {
-        Found::At(n) => Keyword::Closing(n + 1),
-        Found::Nowhere => Keyword::Unknown,
+        WordAnswer::At(n) => Keyword::Closing(n + 1),
+        WordAnswer::Nowhere => Keyword::Unknown,
     }
 }
 
@@ -229,7 +229,7 @@ pub fn read_keyword(s: &[u8]) -> Keyword
         return Keyword::Unknown;
     }
     match section_named(&s[1..]) {
-        Found::At(n) => Keyword::Opening(n + 1),
-        Found::Nowhere => closing(&s[1..]),
+        WordAnswer::At(n) => Keyword::Opening(n + 1),
+        WordAnswer::Nowhere => closing(&s[1..]),
     }
 }

@@ -10,9 +10,9 @@ use borrow.Author.Fill.{fill-more}
 use lib.Dec.{ltb, eqb}
 use lib.IntN.{ℤ}
 use lib.ListN.{length, set, drop, replicate, length-set, length-replicate}
-use Rattle.text.proofs.Lists.{at-end}
+use Rattle.rows_texts.specs.Names.{keyOf}
+use Rattle.basics.proofs.Lists.{at-end}
 use Rattle.names_slots.specs.Looks.{looks}
-use Rattle.names.specs.Marks.{keyOf}
 use Rattle.law.specs.declared.Verdict.{Verdict}
 use Rattle.law.specs.Answers.{limit}
 use Rattle.judge_stock.specs.Stock.{isIn, stockOf}
@@ -22,9 +22,9 @@ use Rattle.judge.specs.Parts.{asked, amongOf, sooner}
 use Rattle.judge.proofs.SoonLaws.{either, soonest, same-among, all-placed}
 
 -- one part has all placements
-pub one-part : (library board : List ℕ) (v : Verdict) → v ≡ amongOf (asked 1 0 board) library board → v ≡ placed library board
+pub one-part : (board library : List ℕ) (v : Verdict) → v ≡ amongOf (asked 1 0 board) board library → v ≡ placed board library
 unfolding asked isIn
-one-part library board v e = e ∙ all-placed (asked 1 0 board) library board (λ x. refl)
+one-part board library v e = e ∙ all-placed (asked 1 0 board) board library (λ x. refl)
 
 -- the first k parts
 part-first : (m : ℕ) → eqb m 0 ≡ ltb m 1
@@ -76,8 +76,8 @@ stock-long parts part library places₀ places e =
     ap length e ∙ stock-of-length parts part library (replicate (length places₀) z) ∙ length-replicate (length places₀) z
 
 -- the best verdict of the parts that came
-pub record Parting (parts : ℕ) (library board places₀ places : List ℕ) (best : Verdict) (k : ℕ) : Type 0 where
-  pub found : best ≡ amongOf (askedBefore parts k board) library board
+pub record Parting (parts : ℕ) (board library places₀ places : List ℕ) (best : Verdict) (k : ℕ) : Type 0 where
+  pub found : best ≡ amongOf (askedBefore parts k board) board library
   pub slots : places ≡ stockOf parts (k - 1) library (replicate (length places₀) 0)
   pub some : 1 ≤ k
   pub last : k - 1 ≤ parts - 1
@@ -86,14 +86,14 @@ pub record Parting (parts : ℕ) (library board places₀ places : List ℕ) (be
   pub small : length library ≤ limit
   pub short : length board ≤ limit
 
-module _ (parts : ℕ) (library board : List ℕ) (v : Verdict) where
-  pub part-start : (places₀ places : List ℕ) → places ≡ stockOf parts 0 library (replicate (length places₀) 0) → v ≡ amongOf (asked parts 0 board) library board
-      → looks < length places₀ → length library ≤ limit → length board ≤ limit → Parting parts library board places places v 1
+module _ (parts : ℕ) (board library : List ℕ) (v : Verdict) where
+  pub part-start : (places₀ places : List ℕ) → places ≡ stockOf parts 0 library (replicate (length places₀) 0) → v ≡ amongOf (asked parts 0 board) board library
+      → looks < length places₀ → length library ≤ limit → length board ≤ limit → Parting parts board library places places v 1
   unfolding asked askedBefore
   part-start places₀ places i e r s b =
       let l = stock-long parts 0 library places₀ places i in
       record {
-        found = e ∙ same-among (asked parts 0 board) (askedBefore parts 1 board) (λ x. before-first (keyOf board x) parts) library board;
+        found = e ∙ same-among (asked parts 0 board) (askedBefore parts 1 board) (λ x. before-first (keyOf board x) parts) board library;
         slots = i ∙ ap (λ (n : ℕ). stockOf parts 0 library (replicate n 0)) (sym l);
         some = omega arith;
         last = omega arith;
@@ -103,7 +103,7 @@ module _ (parts : ℕ) (library board : List ℕ) (v : Verdict) where
         short = b;
       }
 
-module _ (parts : ℕ) (library board places₀ places : List ℕ) (best : Verdict) (k : ℕ) (s : Parting parts library board places₀ places best k) where
+module _ (parts : ℕ) (board library places₀ places : List ℕ) (best : Verdict) (k : ℕ) (s : Parting parts board library places₀ places best k) where
   pub part-room : looks < length places
   part-room = s .room
 
@@ -116,8 +116,8 @@ module _ (parts : ℕ) (library board places₀ places : List ℕ) (best : Verdi
   pub part-length : length places ≡ length places₀
   part-length = s .long
 
-  pub part-more : (ys : List ℕ) (r v : Verdict) → k < parts → r ≡ amongOf (asked parts k board) library board → ys ≡ stockOf parts k library (replicate (length places) 0)
-      → v ≡ sooner best r → Parting parts library board places₀ ys v (k + 1)
+  pub part-more : (ys : List ℕ) (r v : Verdict) → k < parts → r ≡ amongOf (asked parts k board) board library → ys ≡ stockOf parts k library (replicate (length places) 0)
+      → v ≡ sooner best r → Parting parts board library places₀ ys v (k + 1)
   unfolding asked askedBefore
   part-more ys r v h e i j =
       let z : k + 1 - 1 ≡ k = omega arith in
@@ -126,9 +126,9 @@ module _ (parts : ℕ) (library board places₀ places : List ℕ) (best : Verdi
         found =
             j
             ∙ ap (λ (z : Verdict). sooner z r) (s .found)
-            ∙ ap (sooner (amongOf (askedBefore parts k board) library board)) e
-            ∙ soonest (askedBefore parts k board) (asked parts k board) library board
-            ∙ same-among (either (askedBefore parts k board) (asked parts k board) library board) (askedBefore parts (k + 1) board) (λ x. before-next (keyOf board x) parts k) library board;
+            ∙ ap (sooner (amongOf (askedBefore parts k board) board library)) e
+            ∙ soonest (askedBefore parts k board) (asked parts k board) board library
+            ∙ same-among (either (askedBefore parts k board) (asked parts k board) board library) (askedBefore parts (k + 1) board) (λ x. before-next (keyOf board x) parts k) board library;
         slots = rw (z, sym (s .long)) i;
         some = omega arith;
         last = omega arith;
@@ -138,9 +138,9 @@ module _ (parts : ℕ) (library board places₀ places : List ℕ) (best : Verdi
         short = s .short;
       }
 
-  pub part-over : parts ≤ k → best ≡ placed library board
+  pub part-over : parts ≤ k → best ≡ placed board library
   unfolding askedBefore
-  part-over h = s .found ∙ all-placed (askedBefore parts k board) library board (λ x. before-all (keyOf board x) parts k h)
+  part-over h = s .found ∙ all-placed (askedBefore parts k board) board library (λ x. before-all (keyOf board x) parts k h)
 
   pub part-last : (xs : List ℕ) → places₀ ≡ stockOf parts 0 library (replicate (length xs) 0) → parts ≤ k
       → places ≡ stockOf parts (parts - 1) library (replicate (length xs) 0)

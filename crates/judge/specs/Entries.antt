@@ -3,40 +3,37 @@ use Prim.Native.Nat.{ℕ}
 use mathlib.Core.List.{List}
 use mathlib.Core.Bool.{Bool, false, cond, not, _&&_, _||_}
 use lib.IntN.{ℤ, pos}
+use Rattle.law.specs.Kinds.{electricalKind, mechanicalKind, partKind}
+use Rattle.rows_texts.specs.Names.{sameNames, refers}
+use Rattle.rows.specs.Columns.{columnAt, kindColumn}
+use Rattle.basics.specs.Integers.{eqZ}
 use Rattle.law.specs.Words.{boardWord, noReference}
-use Rattle.order_loops.specs.Loops.{eqZ}
 use Rattle.rows_texts.specs.Texts.{textIs}
-use Rattle.walk.specs.Judging.{columnAt}
 use Rattle.walk.specs.Walks.{isRow, Trace, done, stop, skip, row, traceOf}
-use Rattle.names.specs.Names.{sameNames}
 use Rattle.walk.specs.declared.Turn.{Turn}
-
--- a placement's reference is its third text
-unfoldable pub refers : List ℕ → List ℤ → List ℕ → Bool
-refers board x word = textIs board (columnAt x 5) (columnAt x 6) word
 
 -- a line is a row of kind k
 unfoldable pub isOf : Turn → ℤ → Bool
-isOf t k = isRow (t .found) && eqZ (columnAt (t .row) 0) k
+isOf t k = isRow (t .found) && eqZ (kindColumn (t .row)) k
 
-unfoldable pub isEntry : List ℕ → Turn → ℤ → List ℕ → List ℤ → Bool
-isEntry library t k board x = isOf t k && sameNames library (t .row) board x
+unfoldable pub isEntry : List ℕ → List ℕ → Turn → ℤ → List ℤ → Bool
+isEntry board library t k x = isOf t k && sameNames library (t .row) board x
 
 -- some row of kind k is the entry of a board's row x
-unfoldable pub entryIn : List ℕ → ℤ → List ℕ → List ℤ → Trace → Bool
-entryIn library k board x (done w) = false
-entryIn library k board x (stop n l) = false
-entryIn library k board x (skip l t) = entryIn library k board x t
-entryIn library k board x (row l y t) = eqZ (columnAt y 0) k && sameNames library y board x || entryIn library k board x t
+unfoldable pub entryIn : List ℕ → List ℕ → ℤ → List ℤ → Trace → Bool
+entryIn board library k x (done w) = false
+entryIn board library k x (stop n l) = false
+entryIn board library k x (skip l t) = entryIn board library k x t
+entryIn board library k x (row l y t) = eqZ (kindColumn y) k && sameNames library y board x || entryIn board library k x t
 
-unfoldable pub hasEntry : List ℕ → ℤ → List ℕ → List ℤ → Bool
-hasEntry library k board x = entryIn library k board x (traceOf library)
+unfoldable pub hasEntry : List ℕ → List ℕ → ℤ → List ℤ → Bool
+hasEntry board library k x = entryIn board library k x (traceOf library)
 
 -- BOARD needs none, NOREFDES a mechanical one, all others an electrical one
 unfoldable pub lacksEntry : List ℕ → List ℕ → List ℤ → Bool
-lacksEntry library board x =
-    cond (refers board x boardWord) false (cond (refers board x noReference) (not (hasEntry library (pos 151) board x)) (not (hasEntry library (pos 141) board x)))
+lacksEntry board library x =
+    cond (refers board x boardWord) false (cond (refers board x noReference) (not (hasEntry board library (pos mechanicalKind) x)) (not (hasEntry board library (pos electricalKind) x)))
 
 -- a line is a placement that lacks its entry
 unfoldable pub lacks : List ℕ → List ℕ → Turn → Bool
-lacks library board t = isOf t (pos 131) && lacksEntry library board (t .row)
+lacks board library t = isOf t (pos partKind) && lacksEntry board library (t .row)

@@ -4,11 +4,13 @@ use mathlib.Core.List.{List}
 use mathlib.Core.Bool.{Bool, cond, _&&_}
 use lib.Dec.{ltb, eqb}
 use lib.IntN.{ℤ, pos}
-use Rattle.order_loops.specs.Loops.{eqZ}
+use Rattle.rows.specs.RowKinds.{isOfKind}
+use Rattle.law.specs.Kinds.{partKind}
+use Rattle.rows_texts.specs.Names.{keyOf}
+use Rattle.rows.specs.Columns.{columnAt}
+use Rattle.basics.specs.Integers.{eqZ}
 use Rattle.walk.specs.declared.Turn.{Turn}
-use Rattle.walk.specs.Judging.{columnAt}
 use Rattle.walk.specs.Walks.{Trace, done, stop, skip, row, traceOf}
-use Rattle.names.specs.Marks.{keyOf}
 use Rattle.law.specs.declared.Verdict.{Verdict}
 use Rattle.law.specs.Answers.{verdict}
 use Rattle.judge_stock.specs.Stock.{isIn}
@@ -20,20 +22,20 @@ asked parts part board x = isIn (keyOf board x) parts part
 
 -- a line is a placement that passes a test and lacks its entry
 unfoldable pub missed : (List ℤ → Bool) → List ℕ → List ℕ → Turn → Bool
-missed p library board t = p (t .row) && lacks library board t
+missed p board library t = p (t .row) && lacks board library t
 
 -- lines behind n placements: 16 at the first of those that pass a test and lack their entry, or the number of all placements
 unfoldable pub amongFrom : (List ℤ → Bool) → List ℕ → List ℕ → ℕ → Trace → Verdict
-amongFrom p library board n (done w) = verdict 0 0 n 0
-amongFrom p library board n (stop k l) = verdict 0 0 n 0
-amongFrom p library board n (skip l t) = amongFrom p library board n t
-amongFrom p library board n (row l x t) =
-    cond (eqZ (columnAt x 0) (pos 131))
-    (cond (p x && lacksEntry library board x) (verdict 16 0 (n + 1) 1) (amongFrom p library board (n + 1) t))
-    (amongFrom p library board n t)
+amongFrom p board library n (done w) = verdict 0 0 n 0
+amongFrom p board library n (stop k l) = verdict 0 0 n 0
+amongFrom p board library n (skip l t) = amongFrom p board library n t
+amongFrom p board library n (row l x t) =
+    cond (isOfKind x partKind)
+    (cond (p x && lacksEntry board library x) (verdict 16 0 (n + 1) 1) (amongFrom p board library (n + 1) t))
+    (amongFrom p board library n t)
 
 unfoldable pub amongOf : (List ℤ → Bool) → List ℕ → List ℕ → Verdict
-amongOf p library board = amongFrom p library board 0 (traceOf board)
+amongOf p board library = amongFrom p board library 0 (traceOf board)
 
 -- of two verdicts on one board the one that names the earlier placement; number 0 names none
 unfoldable pub sooner : Verdict → Verdict → Verdict

@@ -2,8 +2,9 @@
 // are slots is gone through in parts, by the hash of their names, and so is the board; the earliest answer is that of them all.
 use crate::entries;
 use law::Verdict;
-use line_rows::WIDTH;
+use law::refusals;
 use names::SMALL;
+use rows::WIDTH;
 use walk::Turn;
 use walk::steps;
 ghost use mathlib.Core.Path.{_≡_};
@@ -41,7 +42,7 @@ fn numbered(n: u64, t: Turn) -> u64
     requires { ⌜ n < 2 ^ 62 ⌝ }
     ensures { λ r. ⌜ r ≡ numbered n t ⌝ }
 {
-    if entries::is_of(t, 131) {
+    if entries::is_of(t, rows::PART) {
         return n + 1;
     }
     n
@@ -54,27 +55,27 @@ fn is_asked(board: &[u8], x: [i64; WIDTH], parts: u64, part: u64) -> bool
     if parts < 2 {
         return true;
     }
-    judge_stock::is_in(names::key(board, x), parts, part)
+    judge_stock::is_in(rows_texts::hash_name(board, x), parts, part)
 }
 
 // Whether a line is a placement of a part, and lacks its entry.
-fn is_missed(library: &[u8], places: &[u64], board: &[u8], t: Turn, parts: u64, part: u64) -> bool
+fn is_missed(board: &[u8], library: &[u8], places: &[u64], t: Turn, parts: u64, part: u64) -> bool
     requires { ⌜ (length (now library) ≤ limit) × Stocked (now library) (now places) ⌝ }
-    ensures { λ r. ⌜ r ≡ missed (asked parts part (now (board .entry))) (now (library .entry)) (now (board .entry)) t ⌝ }
+    ensures { λ r. ⌜ r ≡ missed (asked parts part (now (board .entry))) (now (board .entry)) (now (library .entry)) t ⌝ }
 {
     let row = t.row;
-    if entries::is_of(t, 131) {
+    if entries::is_of(t, rows::PART) {
         if is_asked(board, row, parts, part) {
-            return entries::lacks(library, places, board, t);
+            return entries::lacks(board, library, places, t);
         }
     }
     false
 }
 
 // The placements of a board: 16 at the first of a part that lacks its entry, or the number of them all.
-fn placed_by(library: &[u8], places: &[u64], board: &[u8], parts: u64, part: u64) -> Verdict
+fn placed_by(board: &[u8], library: &[u8], places: &[u64], parts: u64, part: u64) -> Verdict
     requires { ⌜ (length (now library) ≤ limit) × (length (now board) ≤ limit) × Stocked (now library) (now places) ⌝ }
-    ensures { λ r. ⌜ r ≡ amongOf (asked parts part (now (board .entry))) (now (library .entry)) (now (board .entry)) ⌝ }
+    ensures { λ r. ⌜ r ≡ amongOf (asked parts part (now (board .entry))) (now (board .entry)) (now (library .entry)) ⌝ }
 {
     let mut w = steps::begin();
     let mut at = 0;
@@ -86,8 +87,8 @@ fn placed_by(library: &[u8], places: &[u64], board: &[u8], parts: u64, part: u64
             return verdict(0, n, 0);
         }
         n = numbered(n, t);
-        if is_missed(library, places, board, t, parts, part) {
-            return verdict(16, n, 1);
+        if is_missed(board, library, places, t, parts, part) {
+            return verdict(refusals::NO_ENTRY, n, 1);
         }
         w = t.walk;
         at = w.at;
@@ -132,25 +133,25 @@ fn refill(library: &[u8], parts: u64, part: u64, places: &mut [u64])
 }
 
 // The verdict of one part, with nothing else in the slots.
-fn of_part(library: &[u8], places: &mut [u64], board: &[u8], parts: u64, part: u64) -> Verdict
+fn of_part(board: &[u8], library: &[u8], places: &mut [u64], parts: u64, part: u64) -> Verdict
     requires { ⌜ (length (now library) ≤ limit) × (length (now board) ≤ limit) × (looks < length (now places)) ⌝ }
-    ensures { λ r. ⌜ r ≡ amongOf (asked parts part (now (board .entry))) (now (library .entry)) (now (board .entry)) ⌝ }
+    ensures { λ r. ⌜ r ≡ amongOf (asked parts part (now (board .entry))) (now (board .entry)) (now (library .entry)) ⌝ }
     ensures { λ _. ⌜ now (places .exit) ≡ stockOf parts part (now (library .entry)) (replicate (length (now (places .entry))) 0) ⌝ }
 {
     refill(library, parts, part, places);
-    placed_by(library, places, board, parts, part)
+    placed_by(board, library, places, parts, part)
 }
 
 // The verdict of all parts; the slots hold the last one in the end.
-fn by_parts(library: &[u8], places: &mut [u64], board: &[u8], parts: u64) -> Verdict
+fn by_parts(board: &[u8], library: &[u8], places: &mut [u64], parts: u64) -> Verdict
     requires { ⌜ (length (now library) ≤ limit) × (length (now board) ≤ limit) × (looks < length (now places)) ⌝ }
-    ensures { λ r. ⌜ r ≡ placed (now (library .entry)) (now (board .entry)) ⌝ }
+    ensures { λ r. ⌜ r ≡ placed (now (board .entry)) (now (library .entry)) ⌝ }
     ensures { λ _. ⌜ now (places .exit) ≡ stockOf parts (parts - 1) (now (library .entry)) (replicate (length (now (places .entry))) 0) ⌝ }
 {
-    let mut best = of_part(library, places, board, parts, 0);
+    let mut best = of_part(board, library, places, parts, 0);
     let mut part = 1;
     while part < parts {
-        let r = of_part(library, places, board, parts, part);
+        let r = of_part(board, library, places, parts, part);
         best = sooner(best, r);
         part += 1;
     }
@@ -158,35 +159,35 @@ fn by_parts(library: &[u8], places: &mut [u64], board: &[u8], parts: u64) -> Ver
 }
 
 // The verdict on a board with a library that is not in slots yet, and few slots at hand.
-fn placed_few(library: &[u8], board: &[u8]) -> Verdict
+fn placed_few(board: &[u8], library: &[u8]) -> Verdict
     requires { ⌜ (length (now library) ≤ limit) × (length (now board) ≤ limit) ⌝ }
-    ensures { λ r. ⌜ r ≡ placed (now (library .entry)) (now (board .entry)) ⌝ }
+    ensures { λ r. ⌜ r ≡ placed (now (board .entry)) (now (library .entry)) ⌝ }
 {
     let mut places: [u64; FEW] = [0; FEW];
     judge_stock::fill(library, 1, 0, &mut places);
-    placed_by(library, &places, board, 1, 0)
+    placed_by(board, library, &places, 1, 0)
 }
 
 // The same with all slots, and in parts where there are too many components for them.
-fn placed_all(library: &[u8], board: &[u8]) -> Verdict
+fn placed_all(board: &[u8], library: &[u8]) -> Verdict
     requires { ⌜ (length (now library) ≤ limit) × (length (now board) ≤ limit) ⌝ }
-    ensures { λ r. ⌜ r ≡ placed (now (library .entry)) (now (board .entry)) ⌝ }
+    ensures { λ r. ⌜ r ≡ placed (now (board .entry)) (now (library .entry)) ⌝ }
 {
     let mut places: [u64; PLACES] = [0; PLACES];
     let n = judge_stock::fill(library, 1, 0, &mut places);
     if n <= MANY {
-        return placed_by(library, &places, board, 1, 0);
+        return placed_by(board, library, &places, 1, 0);
     }
-    by_parts(library, &mut places, board, n / MANY + 1)
+    by_parts(board, library, &mut places, n / MANY + 1)
 }
 
 // The placements of a board: 16 at the first that lacks its entry, or their number; with as many slots as the library's size asks for.
-pub fn placed(library: &[u8], board: &[u8]) -> Verdict
+pub fn placed(board: &[u8], library: &[u8]) -> Verdict
     requires { ⌜ (length (now library) ≤ limit) × (length (now board) ≤ limit) ⌝ }
-    ensures { λ r. ⌜ r ≡ placed (now (library .entry)) (now (board .entry)) ⌝ }
+    ensures { λ r. ⌜ r ≡ placed (now (board .entry)) (now (library .entry)) ⌝ }
 {
     if library.len() < SMALL {
-        return placed_few(library, board);
+        return placed_few(board, library);
     }
-    placed_all(library, board)
+    placed_all(board, library)
 }

@@ -10,16 +10,12 @@ use mir.ValLaws.{toZ-ofZ, toZ-pos}
 use borrow.Author.Tests.{lt-ltb, le-ltb, ltb-false, eq-eqb, ne-eqb}
 use lib.Dec.{ltb}
 use lib.IntN.{ℤ, pos, natAbs}
-use Rattle.walk.specs.Judging.{columnAt}
+use Rattle.basics.proofs.Integers.{back}
+use Rattle.rows.proofs.ColumnLaws.{column}
+use Rattle.rows.specs.RowKinds.{componentKind}
+use Rattle.rows.specs.Columns.{columnAt, geometryLength, geometryStart, partLength, partStart}
 use Rattle.rows_texts.specs.Texts.{sameTexts}
-use Rattle.judge_stock.specs.Stock.{kindFor, codeFor, packOf, packedRow, isNamed, holdsName, tagOf, tagged, showsBy}
-use Rattle.walk.proofs.LineLaws.{column}
-
-pub kind-mechanical : (b : Bool) → b ≡ true → pos 151 ≡ kindFor b
-kind-mechanical b h = rw h
-
-pub kind-electrical : (b : Bool) → b ≡ false → pos 141 ≡ kindFor b
-kind-electrical b h = rw h
+use Rattle.judge_stock.specs.Stock.{codeFor, packOf, packedRow, isNamed, holdsName, tagOf, tagged, showsBy}
 
 -- names in one number
 module _ (k : Bool) (a l b m : ℕ) where
@@ -58,37 +54,37 @@ code-small false c e = rw e (omega arith)
 pub pack-fits : (k : Bool) (a l g m c : ℕ) → a ≤ 16_777_216 → l ≤ 1_023 → m ≤ 1_023 → g ≤ 1_023 → c ≡ codeFor k → Fits w64 ((((a * 1_024 + l) * 1_024 + g) * 1_024 + m) * 4 + c)
 pack-fits k a l g m c h1 h2 h3 h4 e = omega (arith, code-small k c e)
 
-pub pack-row : (k : Bool) (y : List ℤ) (p q s t r : ℕ) → r ≡ packOf k p q s t → p ≡ natAbs (column y 1) → q ≡ natAbs (column y 2) → s ≡ natAbs (column y 3) → t ≡ natAbs (column y 4)
-    → SFits w64 (columnAt y 1) → SFits w64 (columnAt y 2) → SFits w64 (columnAt y 3) → SFits w64 (columnAt y 4) → r ≡ packedRow k y
+pub pack-row : (k : Bool) (y : List ℤ) (p q s t r : ℕ) → r ≡ packOf k p q s t → p ≡ natAbs (back (geometryStart y)) → q ≡ natAbs (back (geometryLength y)) → s ≡ natAbs (back (partStart y)) → t ≡ natAbs (back (partLength y))
+    → SFits w64 (geometryStart y) → SFits w64 (geometryLength y) → SFits w64 (partStart y) → SFits w64 (partLength y) → r ≡ packedRow k y
 unfolding packedRow
 pack-row k y p q s t r i e1 e2 e3 e4 f1 f2 f3 f4 =
-    i ∙ rw (e1, e2, e3, e4, toZ-ofZ w64 (columnAt y 1) f1, toZ-ofZ w64 (columnAt y 2) f2, toZ-ofZ w64 (columnAt y 3) f3, toZ-ofZ w64 (columnAt y 4) f4)
+    i ∙ rw (e1, e2, e3, e4, toZ-ofZ w64 (geometryStart y) f1, toZ-ofZ w64 (geometryLength y) f2, toZ-ofZ w64 (partStart y) f3, toZ-ofZ w64 (partLength y) f4)
 
 -- and out of it
-module _ (library : List ℕ) (e : ℕ) (board : List ℕ) (x : List ℤ) (fits : Fits w64 e) (p : Bool) (f1 : SFits w64 (columnAt x 1)) (f2 : SFits w64 (columnAt x 2))
-    (i : p ≡ sameTexts library (toZ w64 (e / 4_294_967_296)) (toZ w64 (e / 4_194_304 % 1_024)) board (column x 1) (column x 2)) where
-  first-text : p ≡ sameTexts library (pos (e / 4_294_967_296)) (pos (e / 4_194_304 % 1_024)) board (columnAt x 1) (columnAt x 2)
+module _ (board library : List ℕ) (e : ℕ) (x : List ℤ) (fits : Fits w64 e) (p : Bool) (f1 : SFits w64 (geometryStart x)) (f2 : SFits w64 (geometryLength x))
+    (i : p ≡ sameTexts library (toZ w64 (e / 4_294_967_296)) (toZ w64 (e / 4_194_304 % 1_024)) board (back (geometryStart x)) (back (geometryLength x))) where
+  first-text : p ≡ sameTexts library (pos (e / 4_294_967_296)) (pos (e / 4_194_304 % 1_024)) board (geometryStart x) (geometryLength x)
   first-text =
-      i ∙ rw (toZ-pos w64 (e / 4_294_967_296) (omega arith), toZ-pos w64 (e / 4_194_304 % 1_024) (omega arith), toZ-ofZ w64 (columnAt x 1) f1, toZ-ofZ w64 (columnAt x 2) f2)
+      i ∙ rw (toZ-pos w64 (e / 4_294_967_296) (omega arith), toZ-pos w64 (e / 4_194_304 % 1_024) (omega arith), toZ-ofZ w64 (geometryStart x) f1, toZ-ofZ w64 (geometryLength x) f2)
 
-  pub named-not : p ≡ false → false ≡ isNamed library e board x
+  pub named-not : p ≡ false → false ≡ isNamed board library e x
   unfolding isNamed
   named-not h = rw (sym first-text ∙ h)
 
-  pub named-by : (q : Bool) → p ≡ true → SFits w64 (columnAt x 3) → SFits w64 (columnAt x 4)
-      → q ≡ sameTexts library (toZ w64 (e / 4_294_967_296 + e / 4_194_304 % 1_024 + e / 4_096 % 1_024)) (toZ w64 (e / 4 % 1_024)) board (column x 3) (column x 4) → q ≡ isNamed library e board x
+  pub named-by : (q : Bool) → p ≡ true → SFits w64 (partStart x) → SFits w64 (partLength x)
+      → q ≡ sameTexts library (toZ w64 (e / 4_294_967_296 + e / 4_194_304 % 1_024 + e / 4_096 % 1_024)) (toZ w64 (e / 4 % 1_024)) board (back (partStart x)) (back (partLength x)) → q ≡ isNamed board library e x
   unfolding isNamed
   named-by q h f3 f4 j =
       rw (sym first-text ∙ h)
       (j
-      ∙ rw (toZ-pos w64 (e / 4_294_967_296 + e / 4_194_304 % 1_024 + e / 4_096 % 1_024) (omega arith), toZ-pos w64 (e / 4 % 1_024) (omega arith), toZ-ofZ w64 (columnAt x 3) f3, toZ-ofZ w64 (columnAt x 4) f4))
+      ∙ rw (toZ-pos w64 (e / 4_294_967_296 + e / 4_194_304 % 1_024 + e / 4_096 % 1_024) (omega arith), toZ-pos w64 (e / 4 % 1_024) (omega arith), toZ-ofZ w64 (partStart x) f3, toZ-ofZ w64 (partLength x) f4))
 
-module _ (library : List ℕ) (k : Bool) (board : List ℕ) (x : List ℤ) (e c : ℕ) (i : c ≡ codeFor k) where
-  pub other-kind : (e % 4 ≡ c → ⊥) → false ≡ holdsName library k board x e
+module _ (board library : List ℕ) (k : Bool) (x : List ℤ) (e c : ℕ) (i : c ≡ codeFor k) where
+  pub other-kind : (e % 4 ≡ c → ⊥) → false ≡ holdsName board library k x e
   unfolding holdsName
   other-kind h = rw (sym i, ne-eqb (e % 4) c h)
 
-  pub same-kind : (r : Bool) → e % 4 ≡ c → r ≡ isNamed library e board x → r ≡ holdsName library k board x e
+  pub same-kind : (r : Bool) → e % 4 ≡ c → r ≡ isNamed board library e x → r ≡ holdsName board library k x e
   unfolding holdsName
   same-kind r h j = rw (sym i, eq-eqb (e % 4) c h) j
 
@@ -97,8 +93,8 @@ pub pack-small : (k : Bool) (y : List ℤ) (r : ℕ) → r ≡ packedRow k y →
 unfolding packedRow packOf
 pack-small k y r e =
     rw e
-    (go (natAbs (columnAt y 1)) (natAbs (columnAt y 2)) (natAbs (columnAt y 3)) (natAbs (columnAt y 4)) (ltb 16_777_216 (natAbs (columnAt y 1))) (ltb 1_023 (natAbs (columnAt y 2)))
-    (ltb 1_023 (natAbs (columnAt y 4))) (ltb (natAbs (columnAt y 3)) (natAbs (columnAt y 1) + natAbs (columnAt y 2))) (ltb 1_023 (natAbs (columnAt y 3) - (natAbs (columnAt y 1) + natAbs (columnAt y 2))))
+    (go (natAbs (geometryStart y)) (natAbs (geometryLength y)) (natAbs (partStart y)) (natAbs (partLength y)) (ltb 16_777_216 (natAbs (geometryStart y))) (ltb 1_023 (natAbs (geometryLength y)))
+    (ltb 1_023 (natAbs (partLength y))) (ltb (natAbs (partStart y)) (natAbs (geometryStart y) + natAbs (geometryLength y))) (ltb 1_023 (natAbs (partStart y) - (natAbs (geometryStart y) + natAbs (geometryLength y))))
     refl refl refl refl)
   where
     go : (a l b m : ℕ) (c1 c2 c3 c4 c5 : Bool) → ltb 16_777_216 a ≡ c1 → ltb 1_023 l ≡ c2 → ltb 1_023 m ≡ c3 → ltb 1_023 (b - (a + l)) ≡ c5
@@ -126,11 +122,11 @@ pub tag-room : (e : ℕ) → e < 2 ^ 57 → Fits w64 (e * 128)
 tag-room e l = omega arith
 
 -- a tag that differs, or agrees
-module _ (library : List ℕ) (h e : ℕ) (k : Bool) (board : List ℕ) (x : List ℤ) (t : ℕ) (g : t ≡ tagOf h) where
-  pub other-tag : (e % 128 ≡ t → ⊥) → false ≡ showsBy library h k board x e
+module _ (board library : List ℕ) (h e : ℕ) (k : Bool) (x : List ℤ) (t : ℕ) (g : t ≡ tagOf h) where
+  pub other-tag : (e % 128 ≡ t → ⊥) → false ≡ showsBy board library h k x e
   unfolding showsBy
   other-tag n = rw (sym g, ne-eqb (e % 128) t n)
 
-  pub same-tag : (r : Bool) → e % 128 ≡ t → r ≡ holdsName library k board x (e / 128) → r ≡ showsBy library h k board x e
+  pub same-tag : (r : Bool) → e % 128 ≡ t → r ≡ holdsName board library k x (e / 128) → r ≡ showsBy board library h k x e
   unfolding showsBy
   same-tag r n i = rw (sym g, eq-eqb (e % 128) t n) i

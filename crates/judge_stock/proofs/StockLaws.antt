@@ -10,8 +10,13 @@ use borrow.Author.Tests.{lt-ltb, le-ltb}
 use lib.Dec.{eqb}
 use lib.IntN.{ℤ, pos}
 use lib.ListN.{length, getD}
-use Rattle.order_loops.specs.Loops.{eqZ}
-use Rattle.order_loops.proofs.LoopLaws.{same-as}
+use Rattle.law.specs.Kinds.{electricalKind, mechanicalKind}
+use Rattle.rows.proofs.ColumnLaws.{column}
+use Rattle.rows.specs.RowKinds.{leadsComponent, isOfKind}
+use Rattle.rows_texts.specs.Names.{keyOf}
+use Rattle.rows.specs.Columns.{columnAt, kindColumn}
+use Rattle.basics.proofs.Integers.{same-as, back}
+use Rattle.basics.specs.Integers.{eqZ}
 use Rattle.names_slots.specs.Looks.{looks}
 use Rattle.names_slots.specs.Hashes.{slotOf}
 use Rattle.names_slots.specs.Slots as slot
@@ -21,14 +26,10 @@ use Rattle.walk.specs.declared.Found.{Found}
 use Rattle.walk.specs.declared.Found.the-variants.{Row, Nothing, Refused}
 use Rattle.walk.specs.declared.Walk.{Walk}
 use Rattle.walk.specs.declared.Turn.{Turn}
-use Rattle.walk.specs.Judging.{columnAt}
 use Rattle.law.specs.Answers.{limit}
 use Rattle.walk.specs.Walks.{begun, turnOf, stopsBy, isRow, Steady, Trace, done, stop, skip, row, traceBy, traceAt, traceOf}
-use Rattle.names.specs.Marks.{keyOf}
-use Rattle.names.specs.Names.{leadsComponent}
 use Rattle.walk.proofs.WalkLaws.{Going, going-start, going-trace, going-past, going-less, going-more, going-end}
 use Rattle.judge_stock.specs.Stock.{packedRow, tagged, showsBy, showsName, isIn, putName, stockedRow, stockedBy, stockIn, stockOf, counted, componentsIn, componentsOf}
-use Rattle.walk.proofs.LineLaws.{column}
 
 -- a hash in a part
 module _ (h parts part : ℕ) where
@@ -53,25 +54,19 @@ module _ (parts part : ℕ) (library places : List ℕ) (k : Bool) (y : List ℤ
   unfolding putName
   name-not t = rw (sym here-in ∙ t)
 
-module _ (parts part : ℕ) (library places : List ℕ) (y : List ℤ) (f : SFits w64 (columnAt y 0)) (p : Bool) (e : p ≡ eqZ (column y 0) (pos 141)) where
-  electrical : p ≡ eqZ (columnAt y 0) (pos 141)
-  electrical = same-as (columnAt y 0) (pos 141) p f e
-
+module _ (parts part : ℕ) (library places : List ℕ) (y : List ℤ) (p : Bool) (e : p ≡ isOfKind y electricalKind) where
   pub row-electrical : (ys : List ℕ) → p ≡ true → ys ≡ putName parts part library places false y → ys ≡ stockedRow parts part library places y
   unfolding stockedRow
-  row-electrical ys t k = rw (sym electrical ∙ t) k
+  row-electrical ys t k = rw (sym e ∙ t) k
 
-  module _ (t : p ≡ false) (q : Bool) (d : q ≡ eqZ (column y 0) (pos 151)) where
-    mechanical : q ≡ eqZ (columnAt y 0) (pos 151)
-    mechanical = same-as (columnAt y 0) (pos 151) q f d
-
+  module _ (t : p ≡ false) (q : Bool) (d : q ≡ isOfKind y mechanicalKind) where
     pub row-mechanical : (ys : List ℕ) → q ≡ true → ys ≡ putName parts part library places true y → ys ≡ stockedRow parts part library places y
     unfolding stockedRow
-    row-mechanical ys u k = rw (sym electrical ∙ t, sym mechanical ∙ u) k
+    row-mechanical ys u k = rw (sym e ∙ t, sym d ∙ u) k
 
     pub row-other : q ≡ false → places ≡ stockedRow parts part library places y
     unfolding stockedRow
-    row-other u = rw (sym electrical ∙ t, sym mechanical ∙ u)
+    row-other u = rw (sym e ∙ t, sym d ∙ u)
 
 pub placed-same-length : (places ys : List ℕ) (h m : ℕ) → ys ≡ slot.placed places h m → length ys ≡ length places
 placed-same-length places ys h m e = ap length e ∙ placed-length places h m
@@ -90,7 +85,7 @@ module _ (parts part : ℕ) (library places : List ℕ) where
 
   stocked-length : (y : List ℤ) → length (stockedRow parts part library places y) ≡ length places
   unfolding stockedRow
-  stocked-length y = go (eqZ (columnAt y 0) (pos 141)) (eqZ (columnAt y 0) (pos 151))
+  stocked-length y = go (isOfKind y electricalKind) (isOfKind y mechanicalKind)
     where
       go : (a b : Bool) → length (cond a (putName parts part library places false y) (cond b (putName parts part library places true y) places)) ≡ length places
       go true b = name-length false y
@@ -248,47 +243,47 @@ module _ (parts part : ℕ) (library places₀ places : List ℕ) (w : Walk) (at
         }
 
 -- a look for a placement
-pub record Looking (library places : List ℕ) (k : Bool) (board : List ℕ) (x : List ℤ) (h from i : ℕ) : Type 0 where
+pub record Looking (board library places : List ℕ) (k : Bool) (x : List ℤ) (h from i : ℕ) : Type 0 where
   pub key : h ≡ keyOf board x
-  pub left : lookFrom (looks - i) (showsName library k board x) places (from + i) ≡ holds (showsName library k board x) places (keyOf board x)
+  pub left : lookFrom (looks - i) (showsName board library k x) places (from + i) ≡ holds (showsName board library k x) places (keyOf board x)
   pub far : i ≤ looks
   pub room : from + looks ≤ length places
 
-pub look-start : (library places : List ℕ) (k : Bool) (board : List ℕ) (x : List ℤ) (h from : ℕ) → looks < length places → h ≡ keyOf board x → from ≡ slotOf h (length places)
-    → Looking library places k board x h from 0
+pub look-start : (board library places : List ℕ) (k : Bool) (x : List ℤ) (h from : ℕ) → looks < length places → h ≡ keyOf board x → from ≡ slotOf h (length places)
+    → Looking board library places k x h from 0
 unfolding holds
-look-start library places k board x h from l e i =
+look-start board library places k x h from l e i =
     let z : from + 0 ≡ from = omega arith in
     let j : from ≡ slotOf (keyOf board x) (length places) = i ∙ ap (λ (g : ℕ). slotOf g (length places)) e in
     record {
       key = e;
-      left = ap (lookFrom looks (showsName library k board x) places) (z ∙ j);
+      left = ap (lookFrom looks (showsName board library k x) places) (z ∙ j);
       far = omega arith;
       room = rw j (slot-room (keyOf board x) (length places) l);
     }
 
-module _ (library places : List ℕ) (k : Bool) (board : List ℕ) (x : List ℤ) (h from i : ℕ) (s : Looking library places k board x h from i) where
-  pub look-none : looks ≤ i → false ≡ holds (showsName library k board x) places (keyOf board x)
-  look-none l = sym (look-over (showsName library k board x) places from i l) ∙ s .left
+module _ (board library places : List ℕ) (k : Bool) (x : List ℤ) (h from i : ℕ) (s : Looking board library places k x h from i) where
+  pub look-none : looks ≤ i → false ≡ holds (showsName board library k x) places (keyOf board x)
+  look-none l = sym (look-over (showsName board library k x) places from i l) ∙ s .left
 
   module _ (l : i < looks) where
     pub look-within : from + i < length places
     look-within = let r = s .room in omega arith
 
-    pub look-stop : getD places (from + i) 0 ≡ 0 → false ≡ holds (showsName library k board x) places (keyOf board x)
-    look-stop e = sym (look-empty (showsName library k board x) places from i l e) ∙ s .left
+    pub look-stop : getD places (from + i) 0 ≡ 0 → false ≡ holds (showsName board library k x) places (keyOf board x)
+    look-stop e = sym (look-empty (showsName board library k x) places from i l e) ∙ s .left
 
-    module _ (n : getD places (from + i) 0 ≡ 0 → ⊥) (b : Bool) (e : b ≡ showsBy library h k board x (getD places (from + i) 0)) where
-      shown : showsName library k board x (getD places (from + i) 0) ≡ b
-      shown = ap (λ (g : ℕ). showsBy library g k board x (getD places (from + i) 0)) (sym (s .key)) ∙ sym e
+    module _ (n : getD places (from + i) 0 ≡ 0 → ⊥) (b : Bool) (e : b ≡ showsBy board library h k x (getD places (from + i) 0)) where
+      shown : showsName board library k x (getD places (from + i) 0) ≡ b
+      shown = ap (λ (g : ℕ). showsBy board library g k x (getD places (from + i) 0)) (sym (s .key)) ∙ sym e
 
-      pub look-found : b ≡ true → true ≡ holds (showsName library k board x) places (keyOf board x)
-      look-found j = sym (look-hit (showsName library k board x) places from i l n (shown ∙ j)) ∙ s .left
+      pub look-found : b ≡ true → true ≡ holds (showsName board library k x) places (keyOf board x)
+      look-found j = sym (look-hit (showsName board library k x) places from i l n (shown ∙ j)) ∙ s .left
 
-      pub look-on : b ≡ false → Looking library places k board x h from (i + 1)
+      pub look-on : b ≡ false → Looking board library places k x h from (i + 1)
       look-on j = record {
         key = s .key;
-        left = sym (look-more (showsName library k board x) places from i l n (shown ∙ j)) ∙ s .left;
+        left = sym (look-more (showsName board library k x) places from i l n (shown ∙ j)) ∙ s .left;
         far = omega arith;
         room = s .room;
       }

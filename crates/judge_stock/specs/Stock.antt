@@ -4,20 +4,17 @@ use mathlib.Core.List.{List}
 use mathlib.Core.Bool.{Bool, true, false, cond, _&&_}
 use lib.Dec.{ltb, eqb}
 use lib.IntN.{ℤ, pos, natAbs}
-use Rattle.order_loops.specs.Loops.{eqZ}
+use Rattle.law.specs.Kinds.{electricalKind, mechanicalKind}
+use Rattle.rows.specs.RowKinds.{leadsComponent, isOfKind}
+use Rattle.rows_texts.specs.Names.{keyOf}
+use Rattle.rows.specs.Columns.{columnAt, geometryLength, geometryStart, partLength, partStart}
+use Rattle.basics.specs.Integers.{eqZ}
 use Rattle.names_slots.specs.Slots as slot
 use Rattle.walk.specs.declared.Turn.{Turn}
-use Rattle.walk.specs.Judging.{columnAt}
 use Rattle.walk.specs.Walks.{isRow, Trace, done, stop, skip, row, traceOf}
-use Rattle.names.specs.Marks.{keyOf}
-use Rattle.names.specs.Names.{leadsComponent}
 use Rattle.rows_texts.specs.Texts.{sameTexts}
 
--- the kind of an electrical or a mechanical component, and its code
-abbrev pub kindFor : Bool → ℤ
-kindFor true = pos 151
-kindFor false = pos 141
-
+-- the code of a mechanical component, or of an electrical one
 abbrev pub codeFor : Bool → ℕ
 codeFor true = 2
 codeFor false = 1
@@ -33,19 +30,19 @@ packOf mechanical a l b m =
     ((((a * 1_024 + l) * 1_024 + (b - (a + l))) * 1_024 + m) * 4 + codeFor mechanical)))))
 
 unfoldable pub packedRow : Bool → List ℤ → ℕ
-packedRow mechanical y = packOf mechanical (natAbs (columnAt y 1)) (natAbs (columnAt y 2)) (natAbs (columnAt y 3)) (natAbs (columnAt y 4))
+packedRow mechanical y = packOf mechanical (natAbs (geometryStart y)) (natAbs (geometryLength y)) (natAbs (partStart y)) (natAbs (partLength y))
 
 -- the names in such a number are those of a board's row x
-unfoldable pub isNamed : List ℕ → ℕ → List ℕ → List ℤ → Bool
-isNamed library e board x =
+unfoldable pub isNamed : List ℕ → List ℕ → ℕ → List ℤ → Bool
+isNamed board library e x =
     let a = e / 4_294_967_296 in
     let l = e / 4_194_304 % 1_024 in
-    sameTexts library (pos a) (pos l) board (columnAt x 1) (columnAt x 2)
-    && sameTexts library (pos (a + l + e / 4_096 % 1_024)) (pos (e / 4 % 1_024)) board (columnAt x 3) (columnAt x 4)
+    sameTexts library (pos a) (pos l) board (geometryStart x) (geometryLength x)
+    && sameTexts library (pos (a + l + e / 4_096 % 1_024)) (pos (e / 4 % 1_024)) board (partStart x) (partLength x)
 
 -- and its kind is wanted
-unfoldable pub holdsName : List ℕ → Bool → List ℕ → List ℤ → ℕ → Bool
-holdsName library mechanical board x e = eqb (e % 4) (codeFor mechanical) && isNamed library e board x
+unfoldable pub holdsName : List ℕ → List ℕ → Bool → List ℤ → ℕ → Bool
+holdsName board library mechanical x e = eqb (e % 4) (codeFor mechanical) && isNamed board library e x
 
 -- some bits of a hash, others than those that tell its slot
 abbrev pub tagOf : ℕ → ℕ
@@ -55,12 +52,12 @@ tagOf h = h / 2_147_483_648 % 128
 unfoldable pub tagged : ℕ → ℕ → ℕ
 tagged h e = e * 128 + tagOf h
 
-unfoldable pub showsBy : List ℕ → ℕ → Bool → List ℕ → List ℤ → ℕ → Bool
-showsBy library h mechanical board x e = eqb (e % 128) (tagOf h) && holdsName library mechanical board x (e / 128)
+unfoldable pub showsBy : List ℕ → List ℕ → ℕ → Bool → List ℤ → ℕ → Bool
+showsBy board library h mechanical x e = eqb (e % 128) (tagOf h) && holdsName board library mechanical x (e / 128)
 
 -- a slot's number is the entry of a board's row x, of this kind
-abbrev pub showsName : List ℕ → Bool → List ℕ → List ℤ → ℕ → Bool
-showsName library mechanical board x e = showsBy library (keyOf board x) mechanical board x e
+abbrev pub showsName : List ℕ → List ℕ → Bool → List ℤ → ℕ → Bool
+showsName board library mechanical x e = showsBy board library (keyOf board x) mechanical x e
 
 -- a hash is in a part, of so many; in one part there are all
 unfoldable pub isIn : ℕ → ℕ → ℕ → Bool
@@ -74,8 +71,8 @@ putName parts part library places mechanical y =
 -- slots with the names of a row, if it is a component's
 unfoldable pub stockedRow : ℕ → ℕ → List ℕ → List ℕ → List ℤ → List ℕ
 stockedRow parts part library places y =
-    cond (eqZ (columnAt y 0) (pos 141)) (putName parts part library places false y)
-    (cond (eqZ (columnAt y 0) (pos 151)) (putName parts part library places true y) places)
+    cond (isOfKind y electricalKind) (putName parts part library places false y)
+    (cond (isOfKind y mechanicalKind) (putName parts part library places true y) places)
 
 unfoldable pub stockedBy : ℕ → ℕ → List ℕ → List ℕ → Turn → List ℕ
 stockedBy parts part library places t = cond (isRow (t .found)) (stockedRow parts part library places (t .row)) places

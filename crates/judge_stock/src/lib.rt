@@ -23,19 +23,24 @@
 // Proved: what a slot shows, the library has (`Stocked`, judge/proofs/StockTrue), and what no slot shows is looked for; the
 // verdicts on the parts give that on the whole board (`soonest`, judge/proofs/SoonLaws). So no verdict depends on slots, tags
 // or parts.
-use line_rows::WIDTH;
-use names::key;
 use names_slots::LOOKS;
-use order_loops::same;
+use rows::ELECTRICAL;
+use rows::GEOMETRY;
+use rows::GEOMETRY_LEN;
+use rows::MECHANICAL;
+use rows::PART_NUMBER;
+use rows::PART_NUMBER_LEN;
+use rows::WIDTH;
+use rows_texts::hash_name;
 use walk::Turn;
 use walk::steps;
 ghost use mathlib.Core.Path.{_≡_};
 ghost use Prim.Native.Nat.{_^_, _≤_, _<_};
 ghost use lib.ListN.{length};
+ghost use Rattle.rows_texts.specs.Names.{keyOf};
 ghost use Rattle.names_slots.specs.Looks.{looks};
 ghost use Rattle.names_slots.specs.Slots.{holds};
 ghost use Rattle.law.specs.Answers.{limit};
-ghost use Rattle.names.specs.Marks.{keyOf};
 ghost use Rattle.judge_stock.specs.Stock.{codeFor, packOf, packedRow, isNamed, holdsName, tagOf, tagged, showsBy, showsName, isIn, putName, stockedRow, stockedBy, stockOf, counted, componentsOf};
 
 // The code of a kind: an electrical or a mechanical component.
@@ -74,35 +79,49 @@ fn pack_row(mechanical: bool, y: [i64; WIDTH]) -> u64
 {
     pack(
         mechanical,
-        number::magnitude(y[1]),
-        number::magnitude(y[2]),
-        number::magnitude(y[3]),
-        number::magnitude(y[4]),
+        number::magnitude(y[GEOMETRY]),
+        number::magnitude(y[GEOMETRY_LEN]),
+        number::magnitude(y[PART_NUMBER]),
+        number::magnitude(y[PART_NUMBER_LEN]),
     )
 }
 
 // Whether the names in such a number are those of a placement.
-fn is_named(library: &[u8], e: u64, board: &[u8], x: [i64; WIDTH]) -> bool
-    ensures { λ r. ⌜ r ≡ isNamed (now (library .entry)) e (now (board .entry)) x ⌝ }
+fn is_named(board: &[u8], library: &[u8], e: u64, x: [i64; WIDTH]) -> bool
+    ensures { λ r. ⌜ r ≡ isNamed (now (board .entry)) (now (library .entry)) e x ⌝ }
 {
     let a = e / 4_294_967_296;
     let l = e / 4_194_304 % 1_024;
     let b = a + l + e / 4_096 % 1_024;
     let m = e / 4 % 1_024;
-    if rows_texts::same_texts(library, a as i64, l as i64, board, x[1], x[2]) {
-        return rows_texts::same_texts(library, b as i64, m as i64, board, x[3], x[4]);
+    if rows_texts::same_texts(
+        library,
+        a as i64,
+        l as i64,
+        board,
+        x[GEOMETRY],
+        x[GEOMETRY_LEN],
+    ) {
+        return rows_texts::same_texts(
+            library,
+            b as i64,
+            m as i64,
+            board,
+            x[PART_NUMBER],
+            x[PART_NUMBER_LEN],
+        );
     }
     false
 }
 
 // Whether such a number is a placement's entry, of this kind.
-fn holds_name(library: &[u8], e: u64, mechanical: bool, board: &[u8], x: [i64; WIDTH]) -> bool
-    ensures { λ r. ⌜ r ≡ holdsName (now (library .entry)) mechanical (now (board .entry)) x e ⌝ }
+fn holds_name(board: &[u8], library: &[u8], e: u64, mechanical: bool, x: [i64; WIDTH]) -> bool
+    ensures { λ r. ⌜ r ≡ holdsName (now (board .entry)) (now (library .entry)) mechanical x e ⌝ }
 {
     if e % 4 != code_for(mechanical) {
         return false;
     }
-    is_named(library, e, board, x)
+    is_named(board, library, e, x)
 }
 
 // Some bits of a hash, others than those that tell its slot.
@@ -122,19 +141,19 @@ fn tagged(h: u64, e: u64) -> u64
 
 // Whether a slot's number is a placement's entry, of this kind; h is the hash of the placement's name.
 fn shows_name(
+    board: &[u8],
     library: &[u8],
     h: u64,
     e: u64,
     mechanical: bool,
-    board: &[u8],
     x: [i64; WIDTH],
 ) -> bool
-    ensures { λ r. ⌜ r ≡ showsBy (now (library .entry)) h mechanical (now (board .entry)) x e ⌝ }
+    ensures { λ r. ⌜ r ≡ showsBy (now (board .entry)) (now (library .entry)) h mechanical x e ⌝ }
 {
     if e % 128 != tag_of(h) {
         return false;
     }
-    holds_name(library, e / 128, mechanical, board, x)
+    holds_name(board, library, e / 128, mechanical, x)
 }
 
 // Whether a hash is in a part, of so many: by other bits than those that tell its slot and tag. In one part there are all.
@@ -159,7 +178,7 @@ fn put_name(
     requires { ⌜ looks < length (now places) ⌝ }
     ensures { λ _. ⌜ now (places .exit) ≡ putName parts part (now (library .entry)) (now (places .entry)) mechanical y ⌝ }
 {
-    let h = key(library, y);
+    let h = hash_name(library, y);
     if is_in(h, parts, part) {
         let e = pack_row(mechanical, y);
         names_slots::place(places, h, tagged(h, e));
@@ -171,11 +190,11 @@ fn put_row(library: &[u8], parts: u64, part: u64, y: [i64; WIDTH], places: &mut 
     requires { ⌜ looks < length (now places) ⌝ }
     ensures { λ _. ⌜ now (places .exit) ≡ stockedRow parts part (now (library .entry)) (now (places .entry)) y ⌝ }
 {
-    if same(y[0], 141) {
+    if rows::has_kind(y, ELECTRICAL) {
         put_name(library, parts, part, false, y, places);
         return;
     }
-    if same(y[0], 151) {
+    if rows::has_kind(y, MECHANICAL) {
         put_name(library, parts, part, true, y, places);
     }
 }
@@ -199,7 +218,7 @@ fn counted(n: u64, t: Turn) -> u64
 {
     let found = t.found;
     let row = t.row;
-    if steps::is_row(found) & names::leads_component(row) {
+    if steps::is_row(found) & rows::leads_component(row) {
         return n + 1;
     }
     n
@@ -231,16 +250,16 @@ pub fn fill(library: &[u8], parts: u64, part: u64, places: &mut [u64]) -> u64
 
 // Whether a slot holds a placement's entry, of this kind.
 pub fn has_place(
+    board: &[u8],
     library: &[u8],
     places: &[u64],
     mechanical: bool,
-    board: &[u8],
     x: [i64; WIDTH],
 ) -> bool
     requires { ⌜ looks < length (now places) ⌝ }
-    ensures { λ r. ⌜ r ≡ holds (showsName (now (library .entry)) mechanical (now (board .entry)) x) (now (places .entry)) (keyOf (now (board .entry)) x) ⌝ }
+    ensures { λ r. ⌜ r ≡ holds (showsName (now (board .entry)) (now (library .entry)) mechanical x) (now (places .entry)) (keyOf (now (board .entry)) x) ⌝ }
 {
-    let h = key(board, x);
+    let h = hash_name(board, x);
     let from = names_slots::slot_of(h, places.len());
     let mut i = 0;
     while i < LOOKS {
@@ -248,7 +267,7 @@ pub fn has_place(
         if e == 0 {
             return false;
         }
-        if shows_name(library, h, e, mechanical, board, x) {
+        if shows_name(board, library, h, e, mechanical, x) {
             return true;
         }
         i += 1;

@@ -11,9 +11,13 @@ use Rattle.law.specs.declared.Rules.the-variants.{Idf3}
 unfoldable pub kindAt : Rules → ℕ → ℕ → ℕ
 kindAt Idf3 s n = 10 * s + n
 
+-- the last kind, where section 15 closes
+abbrev pub lastKind : ℕ
+lastKind = 159
+
 -- the section of a kind; 0 of one that no section has
 unfoldable pub sectionOf : Rules → ℕ → ℕ
-sectionOf Idf3 k = cond (leb k 159) (k / 10) 0
+sectionOf Idf3 k = cond (leb k lastKind) (k / 10) 0
 
 -- which line of its section a kind is
 unfoldable pub lineOf : Rules → ℕ → ℕ

@@ -12,8 +12,9 @@ use lib.ListN.{length, drop, getD}
 use mir.Syntax.{w64}
 use mir.Val.{SFits}
 use mir.ValLaws.{toZ-ofZ}
+use Rattle.basics.proofs.Integers.{back}
+use Rattle.basics.proofs.Lists.{at-cons, at-end}
 use Rattle.law.specs.Fields.{field}
-use Rattle.text.proofs.Lists.{at-cons, at-end}
 use Rattle.law.specs.Limits.{below, mostDecimals, largestLength, inTurn}
 use Rattle.number.specs.Limits.{includedOf}
 use Rattle.number.specs.Numbers.{readNumber}
@@ -27,7 +28,6 @@ use Rattle.number.specs.declared.NumberAnswer.{NumberAnswer}
 use Rattle.number.specs.declared.NumberAnswer.the-variants.{Count, NotNumber, TooFine}
 use Rattle.number.specs.declared.WholeAnswer.{WholeAnswer}
 use Rattle.number.specs.declared.WholeAnswer.the-variants.{Whole, NotInteger}
-use Rattle.number.proofs.SignLaws.{back}
 use Rattle.law.specs.Values.{text}
 use Rattle.form.specs.Values.{good, refused}
 use Rattle.law.specs.Words.{wordsOf, boardWord, sameBytes}
@@ -45,39 +45,10 @@ use Rattle.law.specs.declared.Limit.{Limit}
 use Rattle.law.specs.declared.Limit.the-variants.{Length as L, NotBelow as L0, Above as Lp, Included as A, Rotation as R, Version as Ver}
 use Rattle.law.specs.declared.FieldType.{FieldType}
 use Rattle.law.specs.declared.FieldType.the-variants.{Text as T, Reference as Ref, Date as D, Integer as I, Number as N, Word as W}
-use Rattle.form_words.specs.declared.Found.{Found}
-use Rattle.form_words.specs.declared.Found.the-variants.{At, Nowhere}
+use Rattle.form_words.specs.declared.WordAnswer.{WordAnswer}
+use Rattle.form_words.specs.declared.WordAnswer.the-variants.{At, Nowhere}
 use Rattle.line_fields.specs.declared.FieldReply.{FieldReply}
 use Rattle.line_fields.specs.declared.FieldReply.the-variants.{Number, Word, Bytes, Refused}
-
--- Bytes compared
-pub len-differ : (s t : List ℕ) → (length s ≡ length t → ⊥) → false ≡ sameBytes s t
-unfolding sameBytes
-len-differ [] [] h = absurd (h refl)
-len-differ [] (b ∷ t) h = refl
-len-differ (a ∷ s) [] h = refl
-len-differ (a ∷ s) (b ∷ t) h = go (eqb a b) (len-differ s t (λ e. h (ap suc e)))
-  where
-    go : (x : Bool) → false ≡ sameBytes s t → false ≡ (x && sameBytes s t)
-    go true e = e
-    go false e = refl
-
-module _ (s t : List ℕ) (i : ℕ) {g : Bool} (inv : sameBytes (drop i s) (drop i t) ≡ g) (l : length s ≡ length t) where
-  pub same-end : length s ≤ i → true ≡ g
-  unfolding sameBytes
-  same-end h = sym (rw (at-end s i h, at-end t i (omega arith))) ∙ inv
-
-  pub same-bad : i < length s → (getD s i 0 ≡ getD t i 0 → ⊥) → false ≡ g
-  unfolding sameBytes
-  same-bad h n =
-      let e : sameBytes (drop i s) (drop i t) ≡ false = rw (at-cons s i h, at-cons t i (omega arith), ne-eqb (getD s i 0) (getD t i 0) n) in
-      sym e ∙ inv
-
-  pub same-more : i < length s → getD s i 0 ≡ getD t i 0 → sameBytes (drop (i + 1) s) (drop (i + 1) t) ≡ g
-  unfolding sameBytes
-  same-more h n =
-      let e : sameBytes (drop i s) (drop i t) ≡ sameBytes (drop (i + 1) s) (drop (i + 1) t) = rw (at-cons s i h, at-cons t i (omega arith), eq-eqb (getD s i 0) (getD t i 0) n) in
-      sym e ∙ inv
 
 -- Limits, of a number z that was read back
 pub version-is : (v : Rules) → 300_000 ≡ versionOf v
@@ -185,7 +156,7 @@ module _ (s : List ℕ) (a : WholeAnswer) (e : a ≡ readInteger s) where
   pub integer-not : a ≡ NotInteger → Refused 7 ≡ toldInteger s
   integer-not h = rw (sym e ∙ h)
 
-module _ (v : Rules) (l : Words) (s : List ℕ) (p : Found) (e : p ≡ found (placeOf (wordsOf v l) s)) where
+module _ (v : Rules) (l : Words) (s : List ℕ) (p : WordAnswer) (e : p ≡ found (placeOf (wordsOf v l) s)) where
   pub word-at : (n : ℕ) → p ≡ At n → Word n ≡ toldWord v l s
   word-at n h = go (placeOf (wordsOf v l) s) (sym h ∙ e)
     where
@@ -200,19 +171,22 @@ module _ (v : Rules) (l : Words) (s : List ℕ) (p : Found) (e : p ≡ found (pl
       go none e = refl
       go (some m) e = cc
 
-module _ (c : Context) (s : List ℕ) (b : Bool) (e : b ≡ isBoard (c .file)) where
-  module _ (h : b ≡ true) (r : Bool) (m : r ≡ sameBytes boardWord s) where
-    pub reference-barred : r ≡ true → Refused 9 ≡ toldReference c s
-    unfolding barred
-    reference-barred t = rw (sym e ∙ h, sym m ∙ t)
-
-    pub reference-other : r ≡ false → Bytes ≡ toldReference c s
-    unfolding barred
-    reference-other t = rw (sym e ∙ h, sym m ∙ t)
-
-  pub reference-free : b ≡ false → Bytes ≡ toldReference c s
+-- BOARD in a board
+module _ (c : Context) (s : List ℕ) (x : Bool) (e : x ≡ isBoard (c .file)) where
+  pub barred-by : (y : Bool) → x ≡ true → y ≡ sameBytes boardWord s → y ≡ barred c s
   unfolding barred
-  reference-free h = rw (sym e ∙ h)
+  barred-by y h i = rw (sym e ∙ h) i
+
+  pub barred-not : x ≡ false → false ≡ barred c s
+  unfolding barred
+  barred-not h = rw (sym e ∙ h)
+
+module _ (c : Context) (s : List ℕ) (r : Bool) (e : r ≡ barred c s) where
+  pub reference-barred : r ≡ true → Refused 9 ≡ toldReference c s
+  reference-barred t = rw (sym e ∙ t)
+
+  pub reference-free : r ≡ false → Bytes ≡ toldReference c s
+  reference-free t = rw (sym e ∙ t)
 
 module _ (s : List ℕ) (r : Bool) (e : r ≡ isDate s) where
   pub date-good : r ≡ true → Bytes ≡ toldDate s

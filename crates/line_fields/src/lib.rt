@@ -1,5 +1,5 @@
 // One field from its bytes, by its type.
-use form_words::Found;
+use form_words::WordAnswer;
 use law::Context;
 use law::FieldType;
 use law::FileType;
@@ -15,8 +15,7 @@ ghost use mathlib.Core.Path.{_≡_};
 ghost use mathlib.Core.Bool.{true, false};
 ghost use Rattle.law.specs.Fields.{field};
 ghost use Rattle.law.specs.Limits.{inTurn};
-ghost use Rattle.law.specs.Words.{sameBytes};
-ghost use Rattle.law.specs.Fits.{above, versionOf, isVersion, kept, within, isBoard};
+ghost use Rattle.law.specs.Fits.{above, versionOf, isVersion, kept, within, isBoard, barred};
 ghost use Rattle.form.specs.Fits.{beyond};
 ghost use Rattle.form.specs.Reading.{readField};
 ghost use Rattle.line_fields.specs.Told.{told, toldCount, toldInteger, toldWord, toldReference, toldDate};
@@ -27,23 +26,6 @@ pub enum FieldReply {
     Word(u64),
     Bytes,
     Refused(u64),
-}
-
-// Whether two slices hold the same bytes.
-pub fn same(a: &[u8], b: &[u8]) -> bool
-    ensures { λ r. ⌜ r ≡ sameBytes (now (a .entry)) (now (b .entry)) ⌝ }
-{
-    if a.len() != b.len() {
-        return false;
-    }
-    let mut i = 0;
-    while i < a.len() {
-        if a[i] != b[i] {
-            return false;
-        }
-        i += 1;
-    }
-    true
 }
 
 // The version's number, as a count.
@@ -149,8 +131,8 @@ fn word_field(v: Rules, l: Words, s: &[u8]) -> FieldReply
     ensures { λ r. ⌜ r ≡ toldWord v l (now (s .entry)) ⌝ }
 {
     match form_words::place_of(v, l, s) {
-        Found::At(n) => FieldReply::Word(n),
-        Found::Nowhere => FieldReply::Refused(refusals::WRONG_WORD),
+        WordAnswer::At(n) => FieldReply::Word(n),
+        WordAnswer::Nowhere => FieldReply::Refused(refusals::WRONG_WORD),
     }
 }
 
@@ -165,17 +147,26 @@ fn is_board(f: FileType) -> bool
     }
 }
 
+// Whether bytes are BOARD, in a board.
+pub fn is_barred(c: Context, s: &[u8]) -> bool
+    ensures { λ r. ⌜ r ≡ barred c (now (s .entry)) ⌝ }
+{
+    let f = c.file;
+    if is_board(f) {
+        return basics::same_bytes(b"BOARD", s);
+    }
+    false
+}
+
 // A reference: BOARD is none in a board.
 fn reference_field(c: Context, s: &[u8]) -> FieldReply
     ensures { λ r. ⌜ r ≡ toldReference c (now (s .entry)) ⌝ }
 {
-    let f = c.file;
-    if is_board(f) {
-        if same(b"BOARD", s) {
-            return FieldReply::Refused(refusals::WRONG_WORD);
-        }
+    if is_barred(c, s) {
+        FieldReply::Refused(refusals::WRONG_WORD)
+    } else {
+        FieldReply::Bytes
     }
-    FieldReply::Bytes
 }
 
 // A bare date.

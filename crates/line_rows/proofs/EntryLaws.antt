@@ -10,13 +10,13 @@ use mir.ValLaws.{toZ-ofZ}
 use lib.IntN.{ℤ}
 use lib.ListN.{length, take, drop, length-drop}
 use lib.Seq.{drop-drop}
+use Rattle.basics.proofs.Integers.{back}
+use Rattle.basics.proofs.Lists.{rest}
 use Rattle.law.specs.Fields.{field}
 use Rattle.text_fields.specs.FirstField.{fieldOf}
 use Rattle.text_fields.specs.declared.FieldAnswer.{FieldAnswer}
 use Rattle.text_fields.specs.declared.FieldAnswer.the-variants.{Nothing, Got, Broken}
-use Rattle.text.proofs.Lists.{rest}
 use Rattle.text_fields.proofs.Bounds.{Lies, Bounded, bounded}
-use Rattle.number.proofs.SignLaws.{back}
 use Rattle.law.specs.Values.{Value, number, word, text}
 use Rattle.form.specs.Values.{Reply, good, refused}
 use Rattle.form.specs.Reading.{readField}

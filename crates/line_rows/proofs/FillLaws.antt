@@ -14,6 +14,8 @@ use lib.Seq.{drop-cons}
 use lib.Dec.{eqb}
 use native.Mathlib.Numerals.{add-one}
 use borrow.Author.Tests.{eq-eqb, ne-eqb}
+use Rattle.basics.proofs.Bools.{none-some}
+use Rattle.basics.proofs.Integers.{back}
 use Rattle.law.specs.Fields.{Field, field}
 use Rattle.text_fields.specs.FirstField.{fieldOf}
 use Rattle.text_fields.specs.declared.FieldAnswer.{FieldAnswer}
@@ -27,7 +29,6 @@ use Rattle.number.specs.declared.NumberAnswer.{NumberAnswer}
 use Rattle.number.specs.declared.NumberAnswer.the-variants.{Count, NotNumber, TooFine}
 use Rattle.number.specs.declared.WholeAnswer.{WholeAnswer}
 use Rattle.number.specs.declared.WholeAnswer.the-variants.{Whole, NotInteger}
-use Rattle.number.proofs.SignLaws.{back}
 use Rattle.law.specs.Values.{Value, number, word, text}
 use Rattle.form.specs.Values.{Reply, good, refused}
 use Rattle.law.specs.Words.{wordsOf, sameBytes}
@@ -37,7 +38,7 @@ use Rattle.form.specs.Fits.{beyond}
 use Rattle.form.specs.Reading.{ofCount, ofInteger, ofPlace, readField}
 use Rattle.law.specs.Layouts.{typesOf}
 use Rattle.form_layouts.specs.Letters.{widthOf, widths, typeAt}
-use Rattle.form_layouts.proofs.KindLaws.{nine}
+use Rattle.form_layouts.proofs.KindLaws.{nine, type-here, widths-here}
 use Rattle.law.specs.declared.Rules.{Rules}
 use Rattle.law.specs.declared.Rules.the-variants.{Idf3}
 use Rattle.law.specs.declared.Context.{Context}
@@ -54,9 +55,6 @@ use Rattle.line_rows.specs.declared.Filling.{Filling}
 use Rattle.line_rows.specs.declared.Placed.{Placed}
 
 -- the place of a word is below its list's length, which is small
-none-some : {n : ℕ} → none ≡ some n → ⊥
-none-some {n} e = let z : _≡_ {A = ℕ} 0 1 = cc in omega arith
-
 place-below : (ws : List (List ℕ)) (s : List ℕ) (n : ℕ) → placeOf ws s ≡ some n → n < length ws
 unfolding placeOf
 place-below [] s n e = absurd (none-some e)
@@ -235,20 +233,13 @@ module _ (c : Context) (k : ℕ) (s : List ℕ) (b m n : ℕ) (u w : List ℤ) (
     pub fills-type : i < length (typesOf (c .rules) k)
     fills-type = omega (arith, r .count)
 
-    here : drop i (typesOf (c .rules) k) ≡ typeAt (typesOf (c .rules) k) i ∷ drop (i + 1) (typesOf (c .rules) k)
-    here = rw (add-one i) (drop-cons (typesOf (c .rules) k) i T (omega (arith, r .count)))
-
-    wide-here : widths (drop i (typesOf (c .rules) k)) ≡ widthOf (typeAt (typesOf (c .rules) k) i) + widths (drop (i + 1) (typesOf (c .rules) k))
-    unfolding widths
-    wide-here = rw here
-
     module _ (t : FieldType) (e : t ≡ typeAt (typesOf (c .rules) k) i) where
       pub fills-room : FieldRoom t s b (fillingAt w j p)
-      fills-room = record { columns = rw e (omega (arith, r .columns, wide-here)); within = r .place; small = r .small }
+      fills-room = record { columns = rw e (omega (arith, r .columns, widths-here (typesOf (c .rules) k) i fills-type)); within = r .place; small = r .small }
 
       step : (g : Filling) → g ≡ putEntry b (fillingAt w j p) (entryAt c t p s) → fillFrom c b s (drop i (typesOf (c .rules) k)) (fillingAt w j p) ≡ cond (eqb (g .refused) 0) (fillFrom c b s (drop (i + 1) (typesOf (c .rules) k)) g) g
       unfolding fillFrom
-      step g d = rw (here, d, e)
+      step g d = rw (type-here (typesOf (c .rules) k) i fills-type, d, e)
 
       module _ (v : List ℤ) (q : Placed) (d : fillingOf v q ≡ putEntry b (fillingAt w j p) (entryAt c t p s)) where
         pub fills-refused : (q .refused ≡ 0 → ⊥) → fillingOf v q ≡ fillFrom c b s (typesOf (c .rules) k) (fillingAt u 1 m)
@@ -265,6 +256,6 @@ module _ (c : Context) (k : ℕ) (s : List ℕ) (b m n : ℕ) (u w : List ℤ) (
               same = l ∙ r .same;
               place = x .within;
               small = r .small;
-              columns = omega (arith, x .columns, r .columns, wide-here, y);
+              columns = omega (arith, x .columns, r .columns, widths-here (typesOf (c .rules) k) i fills-type, y);
               left = sym (rw (eq-eqb (q .refused) 0 o, o) at (step (fillingOf v q) d)) ∙ r .left;
             }

@@ -9,6 +9,7 @@ use borrow.Author.Tests.{not-true, not-false}
 use mir.Syntax.{w64}
 use mir.Val.{Fits}
 use lib.ListN.{length, take, drop}
+use Rattle.basics.proofs.Bools.{none-some}
 use Rattle.law.specs.Bytes.{permitted, allOf, begins}
 use Rattle.law.specs.Fields.{Field, field}
 use Rattle.text_fields.specs.FirstField.{fieldOf}
@@ -63,9 +64,6 @@ module _ (s : List ℕ) (x : FieldAnswer) (e : x ≡ fieldOf s) (n : ℕ) where
     first-start = let b = got-lies s a l q m (sym e ∙ h) in omega arith
 
 -- The whole line
-pub none-some : {fs : List Field} → none ≡ some fs → ⊥
-none-some {fs} e = let z : _≡_ {A = ℕ} 0 1 = cc in omega arith
-
 pub some-before : (f : Field) (o : Option (List Field)) (fs : List Field) → before f o ≡ some fs → (gs : List Field) × (o ≡ some gs) × (fs ≡ f ∷ gs)
 some-before f none fs h = absurd (none-some h)
 some-before f (some gs) fs h = (gs, refl, cc)

@@ -10,6 +10,7 @@ use lib.Dec.{eqb}
 use lib.IntN.{ℤ, pos}
 use lib.ListN.{length, take, drop, replicate, length-drop, length-append}
 use lib.Seq.{drop-drop, set-append-seam}
+use Rattle.basics.proofs.Bools.{none-some}
 use Rattle.law.specs.Fields.{Field, field}
 use Rattle.text_fields.specs.FirstField.{fieldOf}
 use Rattle.text_fields.specs.Fields.{fieldsBy, fieldsIn, fieldsOf}
@@ -43,7 +44,7 @@ use Rattle.line_rows.specs.Rows.{entryOf, entryBy, entryAt, putOne, putE
 use Rattle.law.specs.Rows.{Means, none as noColumns, aNumber, aWord, aDate, aText}
 use Rattle.line_rows.specs.Meaning.{Refuses, Agrees, Part}
 use Rattle.line_rows.specs.declared.Filling.{Filling}
-use Rattle.line_rows.proofs.LookLaws.{got-lies, none-some, some-before}
+use Rattle.line_rows.proofs.LookLaws.{got-lies, some-before}
 use Rattle.line_rows.proofs.MeaningLaws.{part-bytes, part-within}
 
 -- One field

@@ -104,7 +104,7 @@ fn fill_row(c: Context, kind: u64, s: &[u8], base: usize, row: &mut [i64], from:
     let mut at = from;
     let mut i = 0;
     while i < n {
-        let t = form_layouts::type_in(v, kind, layout, i);
+        let t = form_layouts::field_type(v, kind, layout, i);
         let p = put_field(c, t, s, base, row, column, at);
         let k = p.refused;
         if k != 0 {

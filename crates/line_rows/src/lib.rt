@@ -2,6 +2,8 @@
 pub mod columns;
 pub mod looks;
 
+use rows::WIDTH;
+
 // A line: a comment or blank; refused with 3 or 4; a keyword line; a data line, which begins with the bare word PROP or not.
 // The last two with the number of all fields and the place behind the first.
 pub enum LineKind {
@@ -18,9 +20,6 @@ pub enum Entry {
     Text(usize, usize, usize),
     Refused(u64),
 }
-
-// How many numbers a row has.
-pub const WIDTH: usize = 10;
 
 // A row as it is filled: its columns, the next one, the place in the line, and a refusal's number or 0.
 pub struct Filling {

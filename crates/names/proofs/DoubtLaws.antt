@@ -2,11 +2,15 @@
 use Prim.Native.Nat.{ℕ, _+_, _-_, _≤_, _<_}
 use mathlib.Core.Path.{_≡_, refl, sym, ap, ap₂, _∙_}
 use mathlib.Core.List.{List}
-use mathlib.Core.Bool.{Bool, true, false, cond, _&&_, _||_, true≢false, false≢true}
+use mathlib.Core.Bool.{Bool, true, false, cond, _&&_, _||_, true≢false, false≢true, and-assoc}
 use native.Mathlib.Omega.{arith}
 use borrow.Author.Tests.{lt-ltb, le-ltb}
 use lib.IntN.{ℤ}
 use lib.ListN.{length}
+use Rattle.rows_texts.proofs.NameLaws.{same-key}
+use Rattle.rows.specs.RowKinds.{leadsComponent}
+use Rattle.rows_texts.specs.Names.{sameNames, keyOf}
+use Rattle.basics.proofs.Bools.{or-left, or-right}
 use Rattle.names_slots.specs.Marks.{mayHold}
 use Rattle.walk.specs.declared.Found.{Found}
 use Rattle.walk.specs.declared.Found.the-variants.{Row, Nothing, Refused}
@@ -15,10 +19,10 @@ use Rattle.walk.specs.declared.Turn.{Turn}
 use Rattle.law.specs.Answers.{limit}
 use Rattle.walk.specs.Walks.{begun, turnOf, stopsBy, isRow, Steady, Trace, traceBy, traceAt, traceOf}
 use Rattle.walk.proofs.WalkLaws.{Going, going-start, going-trace, going-less, going-more, going-end}
-use Rattle.names.specs.Names.{sameNames, leadsComponent, isNamed, usedIn, isUsed, repeatIn, repeatOf}
-use Rattle.names.specs.Marks.{keyOf, heldIf, markedIf, repeatsAmong, repeatAmong, Telling, Doubted}
-use Rattle.names.proofs.NameLaws.{used-on, used-late, and-assoc, repeat-on}
-use Rattle.names.proofs.KeyLaws.{same-key, marked-if-length, marked-keeps, marked-here, marked-not, not-used, among-all, or-left, or-right}
+use Rattle.names.specs.Names.{isNamed, usedIn, isUsed, repeatIn, repeatOf}
+use Rattle.names.specs.Marks.{heldIf, markedIf, repeatsAmong, repeatAmong, Telling, Doubted}
+use Rattle.names.proofs.NameLaws.{used-on, used-late, repeat-on}
+use Rattle.names.proofs.KeyLaws.{marked-if-length, marked-keeps, marked-here, marked-not, not-used, among-all}
 
 -- a name that is asked for and has no mark comes in what is left, if at all
 pub record Marking (file : List ℕ) (p : ℕ → Bool) (w : Walk) (marks : List ℕ) : Type 0 where

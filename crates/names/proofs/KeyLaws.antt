@@ -9,32 +9,18 @@ use mir.ValLaws.{toZ-ofZ}
 use borrow.Author.Tests.{not-true, not-false}
 use lib.IntN.{ℤ}
 use lib.ListN.{length}
-use Rattle.text.proofs.Lists.{and-left, and-right}
-use Rattle.form.proofs.CompareLaws.{same-eq}
+use Rattle.rows_texts.specs.Names.{sameNames, keyOf}
+use Rattle.rows.proofs.ColumnLaws.{column}
+use Rattle.rows.specs.Columns.{columnAt}
+use Rattle.basics.proofs.Bytes.{bytes-true}
+use Rattle.basics.proofs.Bools.{and-left, and-right}
 use Rattle.names_slots.specs.Hashes.{hashed}
 use Rattle.names_slots.specs.Marks.{mayHold, marked}
 use Rattle.names_slots.proofs.MarkLaws.{marking-length, marking-keeps, marking-here}
 use Rattle.walk.specs.declared.Turn.{Turn}
-use Rattle.walk.specs.Judging.{columnAt}
-use Rattle.walk.proofs.LineLaws.{column}
 use Rattle.rows_texts.specs.Texts.{textAt, sameTexts}
-use Rattle.names.specs.Names.{sameNames, isNamed, isUsed}
-use Rattle.names.specs.Marks.{keyOf, heldIf, markedIf, repeatsAmong, Telling}
-
-pub key-is : (file : List ℕ) (x : List ℤ) (s r : ℕ) → SFits w64 (columnAt x 1) → SFits w64 (columnAt x 2) → SFits w64 (columnAt x 3) → SFits w64 (columnAt x 4)
-    → s ≡ hashed 0 (textAt file (column x 1) (column x 2)) → r ≡ hashed s (textAt file (column x 3) (column x 4)) → r ≡ keyOf file x
-unfolding keyOf
-key-is file x s r f1 f2 f3 f4 e i =
-    i ∙ rw (e, toZ-ofZ w64 (columnAt x 1) f1, toZ-ofZ w64 (columnAt x 2) f2, toZ-ofZ w64 (columnAt x 3) f3, toZ-ofZ w64 (columnAt x 4) f4)
-
--- the same name has the same hash
-pub same-key : (f : List ℕ) (x : List ℤ) (h : List ℕ) (y : List ℤ) → sameNames f x h y ≡ true → keyOf f x ≡ keyOf h y
-unfolding sameNames sameTexts keyOf
-same-key f x h y e =
-    let a : textAt f (columnAt x 1) (columnAt x 2) ≡ textAt h (columnAt y 1) (columnAt y 2) = same-eq _ _ (and-left (sameTexts f (columnAt x 1) (columnAt x 2) h (columnAt y 1) (columnAt y 2)) _ e) in
-    let b : textAt f (columnAt x 3) (columnAt x 4) ≡ textAt h (columnAt y 3) (columnAt y 4) = same-eq _ _ (and-right (sameTexts f (columnAt x 1) (columnAt x 2) h (columnAt y 1) (columnAt y 2)) _ e) in
-    ap (λ (s : List ℕ). hashed (hashed 0 s) (textAt f (columnAt x 3) (columnAt x 4))) a
-    ∙ ap (λ (s : List ℕ). hashed (hashed 0 (textAt h (columnAt y 1) (columnAt y 2))) s) b
+use Rattle.names.specs.Names.{isNamed, isUsed}
+use Rattle.names.specs.Marks.{heldIf, markedIf, repeatsAmong, Telling}
 
 -- a name, where there is one, as the code marks it
 module _ (b : Bool) (xs : List ℕ) (g : ℕ) where
@@ -171,11 +157,3 @@ pub among-all : (a m u : Bool) → (m ≡ false → (a && u) ≡ false) → (a &
 among-all false m u k = refl
 among-all true true u k = refl
 among-all true false u k = sym (k refl)
-
-pub or-left : (a b : Bool) → (a || b) ≡ false → a ≡ false
-or-left false b k = refl
-or-left true b k = k
-
-pub or-right : (a b : Bool) → (a || b) ≡ false → b ≡ false
-or-right false b k = k
-or-right true b k = absurd (true≢false k)

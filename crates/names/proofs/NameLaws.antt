@@ -2,7 +2,7 @@
 use Prim.Native.Nat.{ℕ, _-_, _≤_, _<_}
 use mathlib.Core.Path.{_≡_, refl, sym, ap, _∙_}
 use mathlib.Core.List.{List}
-use mathlib.Core.Bool.{Bool, true, false, _&&_, _||_, true≢false, false≢true}
+use mathlib.Core.Bool.{Bool, true, false, _&&_, _||_, true≢false, false≢true, and-assoc}
 use mir.Syntax.{w64}
 use mir.Val.{SFits}
 use mir.ValLaws.{toZ-ofZ}
@@ -10,43 +10,21 @@ use borrow.Author.Tests.{lt-ltb, le-ltb}
 use lib.Dec.{ltb}
 use lib.IntN.{ℤ, pos}
 use lib.ListN.{length}
-use Rattle.order_loops.specs.Loops.{eqZ}
-use Rattle.order_loops.proofs.LoopLaws.{same-as}
+use Rattle.rows.proofs.ColumnLaws.{column}
+use Rattle.rows.specs.RowKinds.{leadsComponent}
+use Rattle.rows_texts.specs.Names.{sameNames}
+use Rattle.rows.specs.Columns.{columnAt}
+use Rattle.basics.proofs.Integers.{same-as}
+use Rattle.basics.specs.Integers.{eqZ}
 use Rattle.walk.specs.declared.Found.{Found}
 use Rattle.walk.specs.declared.Found.the-variants.{Row, Nothing, Refused}
 use Rattle.walk.specs.declared.Walk.{Walk}
 use Rattle.walk.specs.declared.Turn.{Turn}
-use Rattle.walk.specs.Judging.{columnAt}
 use Rattle.law.specs.Answers.{limit}
 use Rattle.walk.specs.Walks.{begun, turnOf, stopsBy, isRow, Steady, Trace, traceBy, traceAt}
 use Rattle.rows_texts.specs.Texts.{sameTexts}
-use Rattle.names.specs.Names.{sameNames, leadsComponent, isNamed, namesSame, usedIn, isUsed, repeatIn}
-use Rattle.walk.proofs.LineLaws.{column}
+use Rattle.names.specs.Names.{isNamed, namesSame, usedIn, isUsed, repeatIn}
 use Rattle.walk.proofs.WalkLaws.{Going, going-start, going-trace, going-less, going-more, going-end}
-
--- a name is two texts
-module _ (f : List ℕ) (x : List ℤ) (h : List ℕ) (y : List ℤ) (p : Bool)
-    (f1 : SFits w64 (columnAt x 1)) (f2 : SFits w64 (columnAt x 2)) (g1 : SFits w64 (columnAt y 1)) (g2 : SFits w64 (columnAt y 2))
-    (e : p ≡ sameTexts f (column x 1) (column x 2) h (column y 1) (column y 2)) where
-  first-text : p ≡ sameTexts f (columnAt x 1) (columnAt x 2) h (columnAt y 1) (columnAt y 2)
-  first-text = e ∙ rw (toZ-ofZ w64 (columnAt x 1) f1, toZ-ofZ w64 (columnAt x 2) f2, toZ-ofZ w64 (columnAt y 1) g1, toZ-ofZ w64 (columnAt y 2) g2)
-
-  pub names-not : p ≡ false → false ≡ sameNames f x h y
-  unfolding sameNames
-  names-not k = rw (sym first-text ∙ k)
-
-  pub names-by : (q : Bool) → p ≡ true → SFits w64 (columnAt x 3) → SFits w64 (columnAt x 4) → SFits w64 (columnAt y 3) → SFits w64 (columnAt y 4)
-      → q ≡ sameTexts f (column x 3) (column x 4) h (column y 3) (column y 4) → q ≡ sameNames f x h y
-  unfolding sameNames
-  names-by q k f3 f4 g3 g4 i =
-      rw (sym first-text ∙ k) (i ∙ rw (toZ-ofZ w64 (columnAt x 3) f3, toZ-ofZ w64 (columnAt x 4) f4, toZ-ofZ w64 (columnAt y 3) g3, toZ-ofZ w64 (columnAt y 4) g4))
-
-pub leads-is : (x : List ℤ) (p q : Bool) → SFits w64 (columnAt x 0) → p ≡ eqZ (column x 0) (pos 141) → q ≡ eqZ (column x 0) (pos 151) → (p || q) ≡ leadsComponent x
-leads-is x p q f e i = rw (same-as (columnAt x 0) (pos 141) p f e, same-as (columnAt x 0) (pos 151) q f i)
-
-pub and-assoc : (a b c : Bool) → ((a && b) && c) ≡ (a && (b && c))
-and-assoc true b c = refl
-and-assoc false b c = refl
 
 -- two tests, the second only where the first passes
 module _ (x a : Bool) (e : x ≡ a) (b : Bool) where

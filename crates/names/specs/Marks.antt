@@ -5,17 +5,15 @@ use mathlib.Core.List.{List}
 use mathlib.Core.Bool.{Bool, true, false, cond, _&&_}
 use lib.IntN.{ℤ}
 use lib.ListN.{length}
+use Rattle.rows_texts.specs.Names.{keyOf}
+use Rattle.rows.specs.RowKinds.{leadsComponent}
+use Rattle.rows.specs.Columns.{columnAt}
 use Rattle.names_slots.specs.Hashes.{hashed}
 use Rattle.names_slots.specs.Marks.{mayHold, marked}
 use Rattle.walk.specs.declared.Turn.{Turn}
-use Rattle.walk.specs.Judging.{columnAt}
 use Rattle.walk.specs.Walks.{Trace, done, stop, skip, row, traceOf}
 use Rattle.rows_texts.specs.Texts.{textAt}
-use Rattle.names.specs.Names.{leadsComponent, isNamed, isUsed, repeatOf}
-
--- the hash of a row's geometry and part
-unfoldable pub keyOf : List ℕ → List ℤ → ℕ
-keyOf file x = hashed (hashed 0 (textAt file (columnAt x 1) (columnAt x 2))) (textAt file (columnAt x 3) (columnAt x 4))
+use Rattle.names.specs.Names.{isNamed, isUsed, repeatOf}
 
 -- where a test passes: a hash may have been marked; with its mark
 unfoldable pub heldIf : Bool → List ℕ → ℕ → Bool

@@ -4,21 +4,13 @@ use mathlib.Core.List.{List}
 use mathlib.Core.Bool.{Bool, false, cond, _&&_, _||_}
 use lib.Dec.{ltb}
 use lib.IntN.{ℤ, pos}
-use Rattle.order_loops.specs.Loops.{eqZ}
+use Rattle.rows_texts.specs.Names.{sameNames}
+use Rattle.rows.specs.RowKinds.{leadsComponent}
+use Rattle.rows.specs.Columns.{columnAt}
+use Rattle.basics.specs.Integers.{eqZ}
 use Rattle.rows_texts.specs.Texts.{sameTexts}
 use Rattle.walk.specs.declared.Turn.{Turn}
-use Rattle.walk.specs.Judging.{columnAt}
 use Rattle.walk.specs.Walks.{isRow, Trace, done, stop, skip, row, traceOf}
-
--- geometry and part, the first two texts of two rows, each of its own file
-unfoldable pub sameNames : List ℕ → List ℤ → List ℕ → List ℤ → Bool
-sameNames f x h y =
-    sameTexts f (columnAt x 1) (columnAt x 2) h (columnAt y 1) (columnAt y 2)
-    && sameTexts f (columnAt x 3) (columnAt x 4) h (columnAt y 3) (columnAt y 4)
-
--- a row that leads ELECTRICAL or MECHANICAL
-abbrev pub leadsComponent : List ℤ → Bool
-leadsComponent x = eqZ (columnAt x 0) (pos 141) || eqZ (columnAt x 0) (pos 151)
 
 unfoldable pub isNamed : Turn → Bool
 isNamed t = isRow (t .found) && leadsComponent (t .row)

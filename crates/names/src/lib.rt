@@ -5,7 +5,7 @@
 // quadratic time. The definition does look back for each (`repeatOf`, specs/Names). The code finds the same line so:
 //
 //  1. On the walk that `check` makes in any case, each name sets ten bits among some four million, as told by a hash of both
-//     texts (`key`, `is_doubtful`). A name that lacks one of its bits came on no line before. One that has them all may have
+//     texts (`is_doubtful`). A name that lacks one of its bits came on no line before. One that has them all may have
 //     come, or other names have set its bits: it is doubtful, and sets ten bits in a second, small set of marks, the doubts.
 //  2. Without a doubt there is no 12. Otherwise a second walk decides (`first_repeat`). It asks doubtful names only, and marks
 //     only these, in a third set that is nearly empty (`is_again`).
@@ -22,17 +22,19 @@
 // Proved: a doubtful name without its mark came on no line before (`Telling`, specs/Marks); the first line that names a
 // doubtful component again is the first that names any again, and without a doubt there is none (`Doubted`). So no reply
 // depends on the hash, the bits or the sizes of the arrays. The writer asks its rows in the same way (`write::repeats`).
-use line_rows::WIDTH;
-use order_loops::same;
+use rows::WIDTH;
+use rows_texts::hash_name;
 use walk::Turn;
 use walk::steps;
 ghost use mathlib.Core.Path.{_≡_};
 ghost use Prim.Native.Nat.{_≤_, _<_};
 ghost use lib.ListN.{length};
+ghost use Rattle.rows.specs.RowKinds.{leadsComponent};
+ghost use Rattle.rows_texts.specs.Names.{sameNames, keyOf};
 ghost use Rattle.law.specs.Answers.{limit};
 ghost use Rattle.walk.specs.Walks.{traceOf};
-ghost use Rattle.names.specs.Names.{sameNames, leadsComponent, isNamed, namesSame, isUsed};
-ghost use Rattle.names.specs.Marks.{keyOf, heldIf, markedIf, repeatsAmong, repeatAmong, Telling};
+ghost use Rattle.names.specs.Names.{isNamed, namesSame, isUsed};
+ghost use Rattle.names.specs.Marks.{heldIf, markedIf, repeatsAmong, repeatAmong, Telling};
 
 // How many words a walk has at hand for the marks of names, 496 KiB of them, and how many for those of doubtful names; and how
 // many are enough for fewer than so many bytes, or so many numbers of rows.
@@ -44,23 +46,6 @@ pub const FEW: usize = 4_096;
 
 pub const SMALL: usize = 32_768;
 
-// Whether two rows, each of its own file, have the same geometry and part, their first two texts.
-pub fn same_names(first: &[u8], x: [i64; WIDTH], second: &[u8], y: [i64; WIDTH]) -> bool
-    ensures { λ r. ⌜ r ≡ sameNames (now (first .entry)) x (now (second .entry)) y ⌝ }
-{
-    if rows_texts::same_texts(first, x[1], x[2], second, y[1], y[2]) {
-        return rows_texts::same_texts(first, x[3], x[4], second, y[3], y[4]);
-    }
-    false
-}
-
-// Whether a row leads ELECTRICAL or MECHANICAL.
-pub fn leads_component(x: [i64; WIDTH]) -> bool
-    ensures { λ r. ⌜ r ≡ leadsComponent x ⌝ }
-{
-    same(x[0], 141) | same(x[0], 151)
-}
-
 // Whether a line names a component.
 pub fn names_component(t: Turn) -> bool
     ensures { λ r. ⌜ r ≡ isNamed t ⌝ }
@@ -68,7 +53,7 @@ pub fn names_component(t: Turn) -> bool
     let found = t.found;
     let row = t.row;
     if steps::is_row(found) {
-        return leads_component(row);
+        return rows::leads_component(row);
     }
     false
 }
@@ -79,7 +64,7 @@ fn names_same(file: &[u8], t: Turn, x: [i64; WIDTH]) -> bool
 {
     let row = t.row;
     if names_component(t) {
-        return same_names(file, row, file, x);
+        return rows_texts::same_names(file, row, file, x);
     }
     false
 }
@@ -110,14 +95,6 @@ fn is_used(file: &[u8], n: u64, x: [i64; WIDTH]) -> bool
     false
 }
 
-// The hash of a row's geometry and part.
-pub fn key(file: &[u8], x: [i64; WIDTH]) -> u64
-    ensures { λ r. ⌜ r ≡ keyOf (now (file .entry)) x ⌝ }
-{
-    let h = rows_texts::hash_text(0, file, x[1], x[2]);
-    rows_texts::hash_text(h, file, x[3], x[4])
-}
-
 // Whether a row's name may have come before, as far as marks tell, where it has one. It gets its mark here, and one among the
 // doubtful names where it may.
 pub fn is_doubtful(
@@ -135,7 +112,7 @@ pub fn is_doubtful(
     if !named {
         return false;
     }
-    let h = key(file, x);
+    let h = hash_name(file, x);
     if names_slots::marks::mark(marks, h) {
         names_slots::marks::mark(doubts, h);
         return true;
@@ -158,7 +135,7 @@ pub fn is_again(
     if !named {
         return false;
     }
-    let h = key(file, x);
+    let h = hash_name(file, x);
     if names_slots::marks::may_hold(doubts, h) {
         return names_slots::marks::mark(marks, h);
     }

@@ -6,7 +6,7 @@ use native.Mathlib.Omega.{arith}
 use mir.Syntax.{w64}
 use mir.Val.{Fits}
 use lib.ListN.{length, drop, getD}
-use Rattle.text.proofs.Lists.{at-cons, at-end}
+use Rattle.basics.proofs.Lists.{at-cons, at-end}
 use Rattle.names_slots.specs.Looks.{looks}
 use Rattle.names_slots.specs.Hashes.{hashed, slotOf}
 

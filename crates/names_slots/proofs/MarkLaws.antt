@@ -14,7 +14,7 @@ use lib.Dec.{eqb}
 use lib.ListN.{length, getD, set, length-set}
 use lib.Pow.{shl-exact}
 use lib.Seq.{getD-set-same, getD-set-other}
-use Rattle.text.proofs.Lists.{and-left, and-right}
+use Rattle.basics.proofs.Bools.{and-left, and-right, and-both}
 use Rattle.names_slots.specs.Marks.{bits, spotOf, wordOf, bitOf, hasBit, withBit, hasBits, withBits, mayHold, marked}
 
 -- the place of a bit fits its type
@@ -176,9 +176,6 @@ all-under zero xs h i some = under-self xs
 all-under (suc f) xs h i some =
     let s : 0 < length (withBit xs (spotOf h i)) = rw (with-length xs (spotOf h i)) some in
     under-trans xs (withBit xs (spotOf h i)) (withBits f (withBit xs (spotOf h i)) h (i + 1)) (with-under xs some (spotOf h i)) (all-under f (withBit xs (spotOf h i)) h (i + 1) s)
-
-and-both : (a b : Bool) → a ≡ true → b ≡ true → (a && b) ≡ true
-and-both a b e d = rw (e, d)
 
 has-under : (f : ℕ) (xs ys : List ℕ) (h i : ℕ) → Under xs ys → hasBits f xs h i ≡ true → hasBits f ys h i ≡ true
 unfolding hasBits

@@ -10,7 +10,8 @@ use mir.Syntax.{w64}
 use mir.Val.{SFits, toZ, ofZ}
 use mir.ValLaws.{toZ-pos, toZ-ofZ}
 use borrow.Author.Tests.{ltb-true, lt-leb, le-leb, lt-ltb, le-ltb, eq-eqb, eqb-true}
-use Rattle.text.proofs.Lists.{and-left, and-right}
+use Rattle.basics.proofs.Integers.{back}
+use Rattle.basics.proofs.Bools.{and-left, and-right}
 use Rattle.number.specs.Signs.{signed}
 use Rattle.law.specs.Limits.{below, turnAt}
 
@@ -46,9 +47,6 @@ signed-abs (pos n) = refl
 signed-abs (negsuc n) = refl
 
 -- an i64 is read back from its bits
-abbrev pub back : ℤ → ℤ
-back z = toZ w64 (ofZ w64 z)
-
 pub below-is : (z : ℤ) → ltZ z (pos 0) ≡ below z
 below-is (pos n) = go (ltZ (pos n) (pos 0)) refl
   where

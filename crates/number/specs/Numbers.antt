@@ -14,12 +14,12 @@ digitHere [] = false
 digitHere (b ∷ bs) = isDigit b
 
 -- beyond the largest count x: no number; else too fine where a decimal past those kept was not 0; else the count
-unfoldable pub judge : ℕ → Bool → Bool → ℕ → NumberAnswer
-judge x neg fine n = cond (leb n x) (cond fine TooFine (Count (signed neg n))) NotNumber
+unfoldable pub toCount : ℕ → Bool → Bool → ℕ → NumberAnswer
+toCount x neg fine n = cond (leb n x) (cond fine TooFine (Count (signed neg n))) NotNumber
 
 -- decimals, of which the next weighs w, a tenth of the one before it; m is the count so far
 unfoldable pub decimals : ℕ → Bool → Bool → ℕ → ℕ → List ℕ → NumberAnswer
-decimals x neg fine w m [] = judge x neg fine m
+decimals x neg fine w m [] = toCount x neg fine m
 decimals x neg fine w m (b ∷ bs) =
     cond (isDigit b)
     (decimals x neg (fine || (eqb w 0 && not (eqb b 48))) (w / 10) (m + (b - 48) * w) bs)
@@ -27,7 +27,7 @@ decimals x neg fine w m (b ∷ bs) =
 
 -- the digits before the point, of value n so far; u counts make a whole
 unfoldable pub whole : ℕ → ℕ → Bool → ℕ → List ℕ → NumberAnswer
-whole x u neg n [] = judge x neg false (n * u)
+whole x u neg n [] = toCount x neg false (n * u)
 whole x u neg n (b ∷ bs) =
     cond (isDigit b) (whole x u neg (n * 10 + (b - 48)) bs)
     (cond (eqb b 46 && digitHere bs) (decimals x neg false (u / 10) (n * u) bs) NotNumber)

@@ -9,11 +9,12 @@ use lib.Dec.{ltb}
 use lib.IntN.{ℤ, natAbs}
 use lib.ListN.{length, set, length-append}
 use lib.Seq.{sets, length-sets}
+use Rattle.basics.proofs.Integers.{back}
 use Rattle.law.specs.Limits.{below, largestLength}
 use mir.Syntax.{w64}
 use mir.Val.{Fits, SFits}
 use mir.ValLaws.{toZ-ofZ}
-use Rattle.number.proofs.SignLaws.{back, same-abs}
+use Rattle.number.proofs.SignLaws.{same-abs}
 use Rattle.number_print.specs.Printing.{Wrote, top}
 use Rattle.law.specs.Printing.{numeralOf, decimalsOf, magnitudeOf, Form, digitsOf, signOf, printed}
 

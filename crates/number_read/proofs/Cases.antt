@@ -5,7 +5,7 @@ use lib.IntN.{pos, negsuc}
 use Rattle.law.specs.Bytes.{ascii}
 use Rattle.law.specs.Limits.{mostDecimals, largestLength}
 use Rattle.number.specs.Limits.{includedOf}
-use Rattle.number.specs.Numbers.{digitHere, judge, decimals, whole, body, readNumber}
+use Rattle.number.specs.Numbers.{digitHere, toCount, decimals, whole, body, readNumber}
 use Rattle.number.specs.declared.NumberAnswer.{NumberAnswer}
 use Rattle.number.specs.declared.NumberAnswer.the-variants.{Count, NotNumber, TooFine}
 use Rattle.number.specs.declared.AngleAnswer.{AngleAnswer}
@@ -40,5 +40,5 @@ pub p-numbers :
     × (length "-360" ≡ Count (negsuc 35_999_999))
     × (angle "-360" ≡ Beyond)
     × (angle "-359.99999" ≡ Made (record { 0 = negsuc 35_999_998 }))
-unfolding readNumber body whole decimals judge digitHere
+unfolding readNumber body whole decimals toCount digitHere
 p-numbers = (refl, refl, refl, refl, refl, refl, refl, refl, refl, refl, refl, refl, refl, refl)

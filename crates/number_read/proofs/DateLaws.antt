@@ -7,7 +7,8 @@ use native.Mathlib.Omega.{arith}
 use borrow.Author.Tests.{eqb-true, eq-eqb, le-leb, leb-true}
 use lib.Dec.{leb, eqb}
 use lib.ListN.{length, drop, getD}
-use Rattle.text.proofs.Lists.{at-cons, at-end}
+use Rattle.basics.proofs.Bools.{both}
+use Rattle.basics.proofs.Lists.{at-cons, at-end}
 use Rattle.law.specs.Numbers.{isDigit, Digit}
 use Rattle.law.specs.Dates.{valueOf, isTwo, fitsIn, isDate, Piece, two, mark, datePieces}
 use Rattle.number_read.proofs.NumberSpelling.{digit-is, digit-val, digit-of}
@@ -18,16 +19,12 @@ pub data Made : List Piece → List ℕ → Type 0 where
   marked : {m : ℕ} {ps : List Piece} {s : List ℕ} → Made ps s → Made (mark m ∷ ps) (m ∷ s)
   digits : {lo hi d e a b : ℕ} {ps : List Piece} {s : List ℕ} → Digit d a → Digit e b → lo ≤ d * 10 + e → d * 10 + e ≤ hi → Made ps s → Made (two lo hi ∷ ps) (a ∷ b ∷ s)
 
-and-both : (a b : Bool) → a && b ≡ true → (a ≡ true) × (b ≡ true)
-and-both true b h = (refl, h)
-and-both false b h = absurd (false≢true h)
-
 two-sound : (lo hi a b : ℕ) {ps : List Piece} {s : List ℕ} → isTwo lo hi a b ≡ true → Made ps s → Made (two lo hi ∷ ps) (a ∷ b ∷ s)
 unfolding isTwo
 two-sound lo hi a b h r =
-    let p = and-both (isDigit a) _ h in
-    let q = and-both (isDigit b) _ (p .1) in
-    let v = and-both (leb lo (valueOf a b)) _ (q .1) in
+    let p = both (isDigit a) _ h in
+    let q = both (isDigit b) _ (p .1) in
+    let v = both (leb lo (valueOf a b)) _ (q .1) in
     digits (digit-of (p .0)) (digit-of (q .0)) (leb-true lo _ (v .0)) (leb-true _ hi (v .1)) r
 
 fits-made : (ps : List Piece) (s : List ℕ) → fitsIn ps s ≡ true → Made ps s
@@ -36,12 +33,12 @@ fits-made [] [] h = end
 fits-made [] (b ∷ s) h = absurd (false≢true h)
 fits-made (mark m ∷ ps) [] h = absurd (false≢true h)
 fits-made (mark m ∷ ps) (b ∷ s) h =
-    let p = and-both (eqb b m) _ h in
+    let p = both (eqb b m) _ h in
     rw (eqb-true b m (p .0)) (marked (fits-made ps s (p .1)))
 fits-made (two lo hi ∷ ps) [] h = absurd (false≢true h)
 fits-made (two lo hi ∷ ps) (a ∷ []) h = absurd (false≢true h)
 fits-made (two lo hi ∷ ps) (a ∷ b ∷ s) h =
-    let p = and-both (isTwo lo hi a b) _ h in
+    let p = both (isTwo lo hi a b) _ h in
     two-sound lo hi a b (p .0) (fits-made ps s (p .1))
 
 pub date-made : (s : List ℕ) → isDate s ≡ true → Made datePieces s

@@ -7,7 +7,7 @@ use mathlib.Core.Bool.{Bool, true, false, cond}
 use native.Mathlib.Omega.{arith}
 use borrow.Author.Tests.{eq-eqb, ne-eqb, lt-leb}
 use lib.ListN.{length, drop, getD}
-use Rattle.text.proofs.Lists.{at-cons, at-end}
+use Rattle.basics.proofs.Lists.{at-cons, at-end}
 use Rattle.law.specs.Limits.{largestInteger}
 use Rattle.law.specs.Numbers.{isDigit}
 use Rattle.number.specs.Numbers.{digitHere}

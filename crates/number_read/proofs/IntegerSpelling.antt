@@ -10,6 +10,7 @@ use native.Mathlib.Nat.{zero-add}
 use borrow.Author.Tests.{eqb-true, ne-eqb, le-leb, leb-true}
 use lib.Dec.{leb, eqb}
 use lib.IntN.{ℤ, pos}
+use Rattle.basics.proofs.Bools.{cond-cases, none-some}
 use Rattle.number.specs.Signs.{signed}
 use Rattle.law.specs.Limits.{largestInteger}
 use Rattle.law.specs.Numbers.{isDigit, Numeral, one, more}
@@ -19,7 +20,6 @@ use Rattle.law.specs.Integers.{SpellsInteger, plain, plus, minus}
 use Rattle.number.specs.declared.Integer.{Integer}
 use Rattle.number.specs.declared.WholeAnswer.{WholeAnswer}
 use Rattle.number.specs.declared.WholeAnswer.the-variants.{Whole, NotInteger}
-use Rattle.number.proofs.Tests.{cond-cases}
 use Rattle.number_read.proofs.NumberLaws.{digit-low}
 use Rattle.number_read.proofs.NumberSpelling.{digit-is, digit-val, digit-of, numeral-first}
 
@@ -52,9 +52,6 @@ integer-complete (minus r h) = unsigned-complete r h true
 
 -- Sound
 module _ {A : Type 0} where
-  none-some : {a : A} → none ≡ some a → ⊥
-  none-some {a} e = let z : _≡_ {A = ℕ} 0 1 = cc in omega arith
-
   cond-some : (t : Bool) {x : Option A} {a : A} → cond t x none ≡ some a → (t ≡ true) × (x ≡ some a)
   cond-some true h = (refl, h)
   cond-some false h = absurd (none-some h)

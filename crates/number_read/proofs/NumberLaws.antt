@@ -8,12 +8,12 @@ use native.Mathlib.Nat.{mul-le-mul-right, mul-le-mul-left, mul-one}
 use borrow.Author.Tests.{leb-true, lt-leb, eq-eqb, ne-eqb, not-true, not-false}
 use lib.Dec.{leb, eqb}
 use lib.ListN.{length, drop, getD}
-use Rattle.text.proofs.Lists.{at-cons, at-end, and-left, and-right}
+use Rattle.basics.proofs.Bools.{and-left, and-right, cond-both}
+use Rattle.basics.proofs.Lists.{at-cons, at-end}
 use Rattle.law.specs.Numbers.{isDigit}
-use Rattle.number.specs.Numbers.{digitHere, judge, decimals, whole, body, readNumber}
+use Rattle.number.specs.Numbers.{digitHere, toCount, decimals, whole, body, readNumber}
 use Rattle.number.specs.declared.NumberAnswer.{NumberAnswer}
 use Rattle.number.specs.declared.NumberAnswer.the-variants.{NotNumber}
-use Rattle.number.proofs.Tests.{cond-both}
 
 -- a digit's bounds
 pub digit-low : (b : ℕ) → isDigit b ≡ true → 48 ≤ b
@@ -35,7 +35,7 @@ module _ (s : List ℕ) (i : ℕ) where
   unfolding digitHere
   digitHere-end h = rw (at-end s i h)
 
-  pub decimals-end : (x : ℕ) (neg fine : Bool) (w m : ℕ) → length s ≤ i → decimals x neg fine w m (drop i s) ≡ judge x neg fine m
+  pub decimals-end : (x : ℕ) (neg fine : Bool) (w m : ℕ) → length s ≤ i → decimals x neg fine w m (drop i s) ≡ toCount x neg fine m
   unfolding decimals
   decimals-end x neg fine w m h = rw (at-end s i h)
 
@@ -47,7 +47,7 @@ module _ (s : List ℕ) (i : ℕ) where
   unfolding decimals
   decimals-more x neg fine w m h d = rw (at-cons s i h, d)
 
-  pub whole-end : (x u : ℕ) (neg : Bool) (n : ℕ) → length s ≤ i → whole x u neg n (drop i s) ≡ judge x neg false (n * u)
+  pub whole-end : (x u : ℕ) (neg : Bool) (n : ℕ) → length s ≤ i → whole x u neg n (drop i s) ≡ toCount x neg false (n * u)
   unfolding whole
   whole-end x u neg n h = rw (at-end s i h)
 
@@ -68,21 +68,21 @@ module _ (s : List ℕ) (i : ℕ) where
   whole-point x u neg n h d e f = rw (at-cons s i h, d, eq-eqb (getD s i 0) 46 e, f)
 
 -- a count beyond the largest stays there, whatever follows
-judge-big : (x : ℕ) (neg fine : Bool) (m : ℕ) → x < m → judge x neg fine m ≡ NotNumber
-unfolding judge
-judge-big x neg fine m h = rw (lt-leb m x h)
+count-big : (x : ℕ) (neg fine : Bool) (m : ℕ) → x < m → toCount x neg fine m ≡ NotNumber
+unfolding toCount
+count-big x neg fine m h = rw (lt-leb m x h)
 
 times-big : (x n u : ℕ) → 0 < u → x < n → x < n * u
 times-big x n u p h = omega (arith, mul-le-mul-left n p, mul-one n)
 
 decimals-big : (l : List ℕ) (x : ℕ) (neg fine : Bool) (w m : ℕ) → x < m → decimals x neg fine w m l ≡ NotNumber
 unfolding decimals
-decimals-big [] x neg fine w m h = judge-big x neg fine m h
+decimals-big [] x neg fine w m h = count-big x neg fine m h
 decimals-big (b ∷ bs) x neg fine w m h = cond-both (isDigit b) (decimals-big bs x neg _ _ _ (omega arith)) refl
 
 pub whole-big : (l : List ℕ) (x u : ℕ) (neg : Bool) (n : ℕ) → 0 < u → x < n → whole x u neg n l ≡ NotNumber
 unfolding whole
-whole-big [] x u neg n p h = judge-big x neg false _ (times-big x n u p h)
+whole-big [] x u neg n p h = count-big x neg false _ (times-big x n u p h)
 whole-big (b ∷ bs) x u neg n p h =
     cond-both (isDigit b) (whole-big bs x u neg _ p (omega arith))
     (cond-both (eqb b 46 && digitHere bs) (decimals-big bs x neg false (u / 10) _ (times-big x n u p h)) refl)

@@ -9,13 +9,12 @@ use native.Mathlib.Nat.{zero-add, add-assoc}
 use borrow.Author.Tests.{le-leb, eq-eqb, ne-eqb, leb-true, eqb-true, not-false}
 use lib.Dec.{leb, eqb, eqb·suc-zero}
 use lib.IntN.{ℤ}
-use Rattle.text.proofs.Lists.{and-left, and-right}
+use Rattle.basics.proofs.Bools.{and-left, and-right, cond-cases, neither}
 use Rattle.number.specs.Signs.{signed}
 use Rattle.law.specs.Numbers.{isDigit, Digit, Numeral, one, more, Decimals, last, next, Unsigned, noPoint, withPoint, SpellsNumber, plain, plus, minus}
-use Rattle.number.specs.Numbers.{digitHere, judge, decimals, whole, body, readNumber}
+use Rattle.number.specs.Numbers.{digitHere, toCount, decimals, whole, body, readNumber}
 use Rattle.number.specs.declared.NumberAnswer.{NumberAnswer}
 use Rattle.number.specs.declared.NumberAnswer.the-variants.{Count, NotNumber}
-use Rattle.number.proofs.Tests.{cond-cases, or-false}
 use Rattle.number_read.proofs.NumberLaws.{digit-low, digit-high}
 
 -- Digits
@@ -39,7 +38,7 @@ module _ (x : ℕ) where
   exact {w = zero} {d} {b} g z = let e = z refl in rw (eq-eqb b 48 (omega arith))
   exact {w = suc k} g z = rw (eqb·suc-zero k)
 
-  decimals-complete : {w v : ℕ} {l : List ℕ} → Decimals w v l → (neg : Bool) (m : ℕ) → decimals x neg false w m l ≡ judge x neg false (m + v)
+  decimals-complete : {w v : ℕ} {l : List ℕ} → Decimals w v l → (neg : Bool) (m : ℕ) → decimals x neg false w m l ≡ toCount x neg false (m + v)
   unfolding decimals
   decimals-complete (last g z) neg m = rw (digit-is g, exact g z, digit-val g)
   decimals-complete (next {w} {d} {b} {v} g z r) neg m =
@@ -60,15 +59,15 @@ module _ (x : ℕ) where
   unfolding body
   numeral-body r u neg rest = rw (numeral-first r rest) (numeral-complete r u neg rest)
 
-  unsigned-judged : {u c : ℕ} {l : List ℕ} → Unsigned u c l → (neg : Bool) → body x u neg l ≡ judge x neg false c
+  unsigned-counted : {u c : ℕ} {l : List ℕ} → Unsigned u c l → (neg : Bool) → body x u neg l ≡ toCount x neg false c
   unfolding whole
-  unsigned-judged {u} (noPoint {l = l} r) neg = rw append-nil at (numeral-body r u neg [])
-  unsigned-judged {u} (withPoint {n} {v} {l} {m} r f) neg =
+  unsigned-counted {u} (noPoint {l = l} r) neg = rw append-nil at (numeral-body r u neg [])
+  unsigned-counted {u} (withPoint {n} {v} {l} {m} r f) neg =
       numeral-body r u neg (46 ∷ m) ∙ rw (decimals-first f) (decimals-complete f neg (n * u))
 
   unsigned-complete : {u c : ℕ} {l : List ℕ} → Unsigned u c l → c ≤ x → (neg : Bool) → body x u neg l ≡ Count (signed neg c)
-  unfolding judge
-  unsigned-complete {u} {c} r h neg = unsigned-judged r neg ∙ rw (le-leb c x h)
+  unfolding toCount
+  unsigned-complete {u} {c} r h neg = unsigned-counted r neg ∙ rw (le-leb c x h)
 
   unsigned-first : {u c : ℕ} {l : List ℕ} → Unsigned u c l → digitHere l ≡ true
   unsigned-first (noPoint r) = rw append-nil at (numeral-first r [])
@@ -93,19 +92,19 @@ cond-count true h = (refl, h)
 cond-count false h = let z : _≡_ {A = ℕ} 0 1 = cc in absurd (omega arith)
 
 module _ (x : ℕ) where
-  -- what a judged count says
-  record Judged (neg fine : Bool) (m : ℕ) (z : ℤ) : Type 0 where
+  -- what a count says
+  record Counted (neg fine : Bool) (m : ℕ) (z : ℤ) : Type 0 where
     fair : fine ≡ false
     is : z ≡ signed neg m
     within : m ≤ x
 
-  judge-sound : (neg fine : Bool) (m : ℕ) {z : ℤ} → judge x neg fine m ≡ Count z → Judged neg fine m z
-  unfolding judge
-  judge-sound neg true m h =
+  count-sound : (neg fine : Bool) (m : ℕ) {z : ℤ} → toCount x neg fine m ≡ Count z → Counted neg fine m z
+  unfolding toCount
+  count-sound neg true m h =
       let e = cond-count (leb m x) h .1 in
       let z : _≡_ {A = ℕ} 0 1 = cc in
       absurd (omega arith)
-  judge-sound neg false m h =
+  count-sound neg false m h =
       let e = cond-count (leb m x) h in
       record { fair = refl; is = cc (e .1); within = leb-true m x (e .0) }
 
@@ -126,13 +125,13 @@ module _ (x : ℕ) where
   unfolding decimals
   decimals-sound b [] neg fine w m h =
       let e = cond-count (isDigit b) h in
-      let j = judge-sound neg _ _ (e .1) in
-      let f = or-false fine _ (j .fair) in
+      let j = count-sound neg _ _ (e .1) in
+      let f = neither fine _ (j .fair) in
       record { v = (b - 48) * w; spelled = last (digit-of (e .0)) (exact-sound w b (e .0) (f .1)); fair = f .0; is = j .is; within = j .within }
   decimals-sound b (a ∷ l) neg fine w m h =
       let e = cond-count (isDigit b) h in
       let g = decimals-sound a l neg _ _ _ (e .1) in
-      let f = or-false fine _ (g .fair) in
+      let f = neither fine _ (g .fair) in
       let s = add-assoc m ((b - 48) * w) (g .v) in
       record { v = (b - 48) * w + g .v; spelled = next (digit-of (e .0)) (exact-sound w b (e .0) (f .1)) (g .spelled); fair = f .0; is = rw s at (g .is); within = rw s at (g .within) }
 
@@ -153,7 +152,7 @@ module _ (x : ℕ) where
   whole-sound : (u : ℕ) (l : List ℕ) {p : List ℕ} {n : ℕ} → Numeral n p → (neg : Bool) {z : ℤ} → whole x u neg n l ≡ Count z → Read u neg z (p ++ l)
   unfolding whole
   whole-sound u [] {p} {n} r neg h =
-      let j = judge-sound neg false _ h in
+      let j = count-sound neg false _ h in
       record { c = n * u; spelled = rw (append-nil p) (noPoint r); is = j .is; within = j .within }
   whole-sound u (b ∷ l) {p} r neg h =
       ⊎-elim

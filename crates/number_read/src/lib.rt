@@ -10,7 +10,7 @@ ghost use lib.ListN.{length, drop, getD};
 ghost use Rattle.number.specs.Signs.{signed};
 ghost use Rattle.law.specs.Limits.{largestLength, mostDecimals};
 ghost use Rattle.law.specs.Numbers.{isDigit};
-ghost use Rattle.number.specs.Numbers.{digitHere, judge, decimals, whole, body, readNumber};
+ghost use Rattle.number.specs.Numbers.{digitHere, toCount, decimals, whole, body, readNumber};
 ghost use Rattle.number.specs.Integers.{wholeOf, unsigned, readInteger};
 ghost use Rattle.law.specs.Dates.{isTwo, isDate};
 
@@ -63,9 +63,9 @@ fn counts(kept: usize) -> u64
 }
 
 // The answer for a count n; `fine` says that a decimal past those kept was not 0.
-fn judged(largest: u64, neg: bool, fine: bool, n: u64) -> NumberAnswer
+fn to_count(largest: u64, neg: bool, fine: bool, n: u64) -> NumberAnswer
     requires { ⌜ largest ≤ largestLength ⌝ }
-    ensures { λ r. ⌜ r ≡ judge largest neg fine n ⌝ }
+    ensures { λ r. ⌜ r ≡ toCount largest neg fine n ⌝ }
 {
     if largest < n {
         return NumberAnswer::NotNumber;
@@ -102,7 +102,7 @@ fn decimal_part(
         w = w / 10;
         i += 1;
     }
-    judged(largest, neg, fine, m)
+    to_count(largest, neg, fine, m)
 }
 
 // The digits from `at` on, and what follows them; `unit` counts make a whole.
@@ -130,7 +130,7 @@ fn whole_part(s: &[u8], at: usize, largest: u64, neg: bool, unit: u64) -> Number
         }
         i += 1;
     }
-    judged(largest, neg, false, n * unit)
+    to_count(largest, neg, false, n * unit)
 }
 
 // A number without its sign.

@@ -4,6 +4,7 @@ use mathlib.Core.Path.{_≡_, refl}
 use mathlib.Core.List.{List, [], _∷_, _++_}
 use mathlib.Core.Bool.{false}
 use lib.IntN.{ℤ, pos, negsuc}
+use Rattle.basics.specs.Integers.{eqZ}
 use Rattle.law.specs.Bytes.{allOf, permitted, ascii}
 use Rattle.law.specs.Dates.{datePieces, isTwo, fitsIn, isDate}
 use Rattle.law.specs.Values.{Value, number, word, text, Rec}
@@ -16,7 +17,7 @@ use Rattle.law.specs.declared.Rules.the-variants.{Idf3}
 use Rattle.law.specs.declared.FileType.the-variants.{Board as board, Library as library}
 use Rattle.law.specs.Records.{shapeOf, manyLoops, isMiddle, namesAComponent}
 use Rattle.law.specs.Limits.{wholeTurn}
-use Rattle.order_loops.specs.Loops.{eqZ, loopAfter}
+use Rattle.order_loops.specs.Loops.{loopAfter}
 use Rattle.order.specs.Stages.{mayOpen, after}
 use Rattle.order.specs.Automaton.{start, advance, accepts, Ran, through, stopped, run}
 use Rattle.order.specs.declared.Stage.the-variants.{Nothing as nothing, Headed as headed, Middle as middle, Finished as finished}
@@ -71,7 +72,7 @@ ran rs = run Idf3 [] start rs
 record Cases : Type 0 where
   nothing-yet : ran [] ≡ through (between nothing)
   library-alone : ran aLibrary ≡ through (between (headed library))
-  a-board : ran (aBoard ++ (outlined (circleOf 22 0) ++ placed)) ≡ through (between finished)
+  a-board : ran (aBoard ++ (outlined (circleOf 22 0) ++ placed)) ≡ through (between (finished board))
   without-placement : accepts Idf3 start (aBoard ++ outlined (circleOf 22 0)) ≡ false
   no-such-kind : ran (of 15 [] ∷ []) ≡ stopped 0 misplaced
   past-the-kinds : ran (of 160 [] ∷ []) ≡ stopped 0 misplaced

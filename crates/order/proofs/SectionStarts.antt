@@ -8,7 +8,7 @@ use native.Mathlib.Omega.{arith}
 use borrow.Author.Tests.{ne-eqb, leb-true, leb-false}
 use lib.Dec.{leb, eqb}
 use lib.ListN.{length}
-use Rattle.text.proofs.Tables.{allBelow, below-all}
+use Rattle.basics.proofs.Tables.{allBelow, below-all}
 use Rattle.law.specs.Sections.{outline, sections, nth}
 use Rattle.law.specs.declared.Rules.{Rules}
 use Rattle.law.specs.declared.Rules.the-variants.{Idf3}

@@ -3,6 +3,7 @@ use Prim.Native.Nat.{ℕ}
 use mathlib.Core.Path.{_≡_, refl, sym, _∙_}
 use mathlib.Core.Bool.{Bool, true, false, cond, _&&_, _||_, false≢true}
 use lib.Dec.{eqb}
+use Rattle.rows.specs.declared.Point.{Point}
 use Rattle.law.specs.Values.{Rec}
 use Rattle.law.specs.Kinds.{sectionOf, Role, closing, title, point, prop, entry, part, roleOf}
 use Rattle.law.specs.Fits.{under, wellFormed}
@@ -13,7 +14,6 @@ use Rattle.law.specs.Records.{typeIn}
 use Rattle.order_loops.specs.Loops.{complete}
 use Rattle.order.specs.Stages.{fileOf}
 use Rattle.order.specs.Automaton.{isRole, if-fit, onlyIf, atPhase, advance, typeAt, standsIn, mayStand, movedIn, moved, stepped}
-use Rattle.order_loops.specs.declared.Point.{Point}
 use Rattle.order.specs.declared.Stage.{Stage}
 use Rattle.order.specs.declared.Phase.{Phase}
 use Rattle.order.specs.declared.Phase.the-variants.{AwaitTitle as awaitTitle, AwaitName as awaitName, HeaderFull as headerFull, AwaitLead as awaitLead, InPoints as inPoints, InProps as inProps, InList as inList, AwaitPart as awaitPart, AwaitPosition as awaitPosition}

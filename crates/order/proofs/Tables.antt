@@ -5,18 +5,19 @@ use mathlib.Core.List.{List, [], _∷_}
 use mathlib.Core.Option.{Option, none, some}
 use mathlib.Core.Bool.{Bool, true, false, cond}
 use lib.IntN.{pos}
+use Rattle.rows.specs.declared.Point.{Point}
+use Rattle.basics.specs.Integers.{eqZ}
 use Rattle.law.specs.Sections.{sections}
 use Rattle.law.specs.Kinds.{kindAt, sectionOf, lineOf, roleOf}
 use Rattle.form.specs.declared.Keyword.the-variants.{Opening, Closing, Unknown}
 use Rattle.law.specs.declared.Rules.the-variants.{Idf3}
 use Rattle.law.specs.declared.FileType.the-variants.{Board as board, Panel as panel, Library as library}
 use Rattle.law.specs.Records.{shapeOf, manyLoops, isMiddle}
-use Rattle.order_loops.specs.Loops.{eqZ, loopAfter}
+use Rattle.order_loops.specs.Loops.{loopAfter}
 use Rattle.order.specs.Stages.{mayOpen, after, mayEnd}
 use Rattle.order.specs.Places.{dataKind, keyKind}
 use Rattle.order.specs.Automaton.{startOf, standsBy, movedBy, mayStand}
 use Rattle.order_loops.specs.declared.Place.{Place}
-use Rattle.order_loops.specs.declared.Point.{Point}
 use Rattle.order.specs.declared.Stage.{Stage}
 use Rattle.order.specs.declared.Stage.the-variants.{Nothing as nothing, Headed as headed, Middle as middle, Finished as finished}
 use Rattle.order_loops.specs.declared.LoopState.{LoopState}
@@ -46,7 +47,7 @@ pub record Order : Type 0 where
   after-holes : opens (middle board true false) ≡ 4 ∷ 5 ∷ 6 ∷ 7 ∷ 8 ∷ 9 ∷ 10 ∷ 12 ∷ 13 ∷ []
   after-notes : opens (middle panel false true) ≡ 4 ∷ 5 ∷ 6 ∷ 7 ∷ 8 ∷ 9 ∷ 10 ∷ 11 ∷ 13 ∷ []
   after-both : opens (middle panel true true) ≡ 4 ∷ 5 ∷ 6 ∷ 7 ∷ 8 ∷ 9 ∷ 10 ∷ 13 ∷ []
-  after-placement : opens finished ≡ []
+  after-placement : opens (finished board) ≡ []
   board-outline : after (headed board) 2 ≡ middle board false false
   panel-outline : after (headed panel) 3 ≡ middle panel false false
   component : after (headed library) 14 ≡ headed library
@@ -54,12 +55,12 @@ pub record Order : Type 0 where
   place-region : after (middle panel false true) 10 ≡ middle panel false true
   drilled-holes : after (middle board false true) 11 ≡ middle board true true
   notes : after (middle board false false) 12 ≡ middle board false true
-  placement : after (middle panel false false) 13 ≡ finished
+  placement : after (middle panel false false) 13 ≡ finished panel
   ends-nowhere : mayEnd nothing ≡ false
   ends-board-headed : mayEnd (headed board) ≡ false
   ends-panel-headed : mayEnd (headed panel) ≡ false
   ends-middle : mayEnd (middle board true true) ≡ false
-  ends-placed : mayEnd finished ≡ true
+  ends-placed : mayEnd (finished board) ≡ true
   ends-library : mayEnd (headed library) ≡ true
 
 pub order : Order
@@ -179,7 +180,7 @@ pub record Within : Type 0 where
   data-between : mayStand Idf3 (between (headed board)) 21 ≡ false
   opening-between : mayStand Idf3 (between (headed board)) (keyKind Idf3 (Opening 2)) ≡ true
   kind-closing : keyKind Idf3 (Closing 13) ≡ 139
-  kind-between : dataKind Idf3 (between finished) true ≡ 0
+  kind-between : dataKind Idf3 (between (finished board)) true ≡ 0
 
 pub within : Within
 unfolding manyLoops after shapeOf sections dataKind keyKind kindAt mayStand mayOpen roleOf sectionOf lineOf

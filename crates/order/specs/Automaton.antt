@@ -4,6 +4,7 @@ use mathlib.Core.List.{List, [], _∷_}
 use mathlib.Core.Option.{Option, none, some}
 use mathlib.Core.Bool.{Bool, false, cond, _&&_, _||_}
 use lib.Dec.{eqb}
+use Rattle.rows.specs.declared.Point.{Point}
 use Rattle.law.specs.Values.{Rec}
 use Rattle.law.specs.Words.{sameBytes}
 use Rattle.law.specs.Sections.{Shape, header, outline, component, keepout, listing, placements}
@@ -15,7 +16,6 @@ use Rattle.law.specs.declared.FileType.the-variants.{Board as board, Panel as p
 use Rattle.law.specs.Records.{shapeOf, manyLoops, typeIn, Named, namesAComponent, nameIn}
 use Rattle.order.specs.Marks.{pointOf}
 use Rattle.order_loops.specs.Loops.{loopAfter, complete}
-use Rattle.order_loops.specs.declared.Point.{Point}
 use Rattle.order.specs.declared.Stage.{Stage}
 use Rattle.order.specs.declared.Stage.the-variants.{Nothing as nothing, Headed as headed}
 use Rattle.order_loops.specs.declared.LoopState.{LoopState}
@@ -209,8 +209,8 @@ unless again (next t) = cond again (refused repeated) (next t)
 unless again (refused e) = refused e
 
 -- what a record does after records with these names
-abbrev pub judge : Rules → List Named → State → Rec → Outcome
-judge v used st r = unless (repeats v used r) (advance v st r)
+abbrev pub admit : Rules → List Named → State → Rec → Outcome
+admit v used st r = unless (repeats v used r) (advance v st r)
 
 -- how far a list carries a state: through; or up to a record, counted from 0, that is refused
 pub data Ran : Type 0 where
@@ -230,4 +230,4 @@ onward (refused e) f = stopped 0 e
 -- a list of records, with the names of components
 abbrev pub run : Rules → List Named → State → List Rec → Ran
 run v used st [] = through st
-run v used st (r ∷ rs) = onward (judge v used st r) (λ t. run v (noted v used r) t rs)
+run v used st (r ∷ rs) = onward (admit v used st r) (λ t. run v (noted v used r) t rs)

@@ -16,7 +16,7 @@ mayOpen v (headed board) s = eqb s 2
 mayOpen v (headed panel) s = eqb s 3
 mayOpen v (headed library) s = isComponent s
 mayOpen v (middle t h n) s = eqb s 13 || isMiddle v s && not (h && eqb s 11) && not (n && eqb s 12)
-mayOpen v finished s = false
+mayOpen v (finished t) s = false
 
 -- after the outline of a board or panel its holes and notes are still to come; a library goes on as it is
 abbrev pub afterHeaded : FileType → Stage
@@ -28,8 +28,8 @@ afterHeaded library = headed library
 unfoldable pub after : Stage → ℕ → Stage
 after nothing s = nothing
 after (headed t) s = afterHeaded t
-after (middle t h n) s = cond (eqb s 13) finished (middle t (h || eqb s 11) (n || eqb s 12))
-after finished s = finished
+after (middle t h n) s = cond (eqb s 13) (finished t) (middle t (h || eqb s 11) (n || eqb s 12))
+after (finished t) s = finished t
 
 -- a board or a panel ends after PLACEMENT, a library after its header or any component
 abbrev pub mayEnd : Stage → Bool
@@ -38,11 +38,11 @@ mayEnd (headed board) = false
 mayEnd (headed panel) = false
 mayEnd (headed library) = true
 mayEnd (middle t h n) = false
-mayEnd finished = true
+mayEnd (finished t) = true
 
 -- the file's type by the sections behind us; where none says it no field depends on it
 abbrev pub fileOf : Stage → FileType
 fileOf nothing = library
 fileOf (headed t) = t
 fileOf (middle t h n) = t
-fileOf finished = library
+fileOf (finished t) = t

@@ -3,12 +3,12 @@
 use law::FileType;
 use order_loops::LoopState;
 
-// The sections behind us: none; the header; the outline, and whether holes and notes are among what follows it; all.
+// The sections behind us: none; the header; the outline, and whether holes and notes are among what follows it; all. Each but the first has the file's type.
 pub enum Stage {
     Nothing,
     Headed(FileType),
     Middle(FileType, bool, bool),
-    Finished,
+    Finished(FileType),
 }
 
 // Where we are in a section.

@@ -8,8 +8,8 @@ use mir.Syntax.{w64}
 use mir.Val.{Fits}
 use borrow.Author.Tests.{ne-eqb, eqb-true, leb-true, leb-false}
 use lib.Dec.{leb, eqb}
-use Rattle.text.proofs.Lists.{and-left, and-right}
-use Rattle.text.proofs.Tables.{allBelow, below-all}
+use Rattle.basics.proofs.Tables.{allBelow, below-all}
+use Rattle.basics.proofs.Bools.{and-left, and-right}
 use Rattle.law.specs.Sections.{Shape, header, outline, component, keepout, listing, placements, sections}
 use Rattle.law.specs.Kinds.{kindAt}
 use Rattle.form.specs.declared.Keyword.{Keyword}

@@ -1,13 +1,13 @@
 -- Laws of roles as the code reads them: by the line that a kind is and the shape of its section.
-use Prim.Native.Nat.{ℕ, _/_, _%_, _<_}
+use Prim.Native.Nat.{ℕ, suc, _/_, _%_, _<_}
 use mathlib.Core.Path.{_≡_, refl, sym, ap, _∙_}
 use mathlib.Core.Bool.{Bool, true, false, _||_, false≢true}
 use native.Mathlib.Omega.{arith}
 use borrow.Author.Tests.{eqb-true, ne-eqb, ltb-true, ltb-false, lt-leb}
 use lib.Dec.{ltb, eqb}
-use Rattle.text.proofs.Tables.{allBelow, below-all}
+use Rattle.basics.proofs.Tables.{allBelow, below-all}
 use Rattle.law.specs.Sections.{Shape, header, outline, component, keepout, listing, placements, sections}
-use Rattle.law.specs.Kinds.{sectionOf, lineOf, dataRole, roleIn, roleOf}
+use Rattle.law.specs.Kinds.{sectionOf, lineOf, dataRole, roleIn, roleOf, lastKind}
 use Rattle.law.specs.declared.Rules.{Rules}
 use Rattle.law.specs.declared.Rules.the-variants.{Idf3}
 use Rattle.law.specs.Records.{shapeOf}
@@ -134,7 +134,7 @@ no-more placements n a b c = rw (ne-eqb n 1 a, ne-eqb n 2 b)
 abbrev role-right : Rules → ℕ → Bool
 role-right v k = ltb k 10 || eqb (roleNumber (roleIn (shapeOf v (k / 10)) (k % 10))) (roleNumber (roleOf v k))
 
-all-right : (v : Rules) → allBelow 160 (role-right v) ≡ true
+all-right : (v : Rules) → allBelow (suc lastKind) (role-right v) ≡ true
 unfolding roleOf sectionOf lineOf shapeOf sections
 all-right Idf3 = refl
 
@@ -142,26 +142,26 @@ none-right : (v : Rules) → allBelow 10 (λ k. eqb 10 (roleNumber (roleOf v k))
 unfolding roleOf sectionOf lineOf
 none-right Idf3 = refl
 
-past-last : (v : Rules) (k : ℕ) → 159 < k → 10 ≡ roleNumber (roleOf v k)
+past-last : (v : Rules) (k : ℕ) → lastKind < k → 10 ≡ roleNumber (roleOf v k)
 unfolding roleOf sectionOf
-past-last Idf3 k h = rw (lt-leb k 159 h)
+past-last Idf3 k h = rw (lt-leb k lastKind h)
 
-pub role-none : (v : Rules) (k : ℕ) → ltb k 10 || ltb 159 k ≡ true → 10 ≡ roleNumber (roleOf v k)
+pub role-none : (v : Rules) (k : ℕ) → ltb k 10 || ltb lastKind k ≡ true → 10 ≡ roleNumber (roleOf v k)
 role-none v k h = go (ltb k 10) refl h
   where
-    go : (b : Bool) → ltb k 10 ≡ b → b || ltb 159 k ≡ true → 10 ≡ roleNumber (roleOf v k)
+    go : (b : Bool) → ltb k 10 ≡ b → b || ltb lastKind k ≡ true → 10 ≡ roleNumber (roleOf v k)
     go true e h = eqb-true 10 (roleNumber (roleOf v k)) (below-all 10 (λ n. eqb 10 (roleNumber (roleOf v n))) (none-right v) k (ltb-true k 10 e))
-    go false e h = past-last v k (ltb-true 159 k h)
+    go false e h = past-last v k (ltb-true lastKind k h)
 
-module _ (v : Rules) (k : ℕ) (h : ltb k 10 || ltb 159 k ≡ false) where
+module _ (v : Rules) (k : ℕ) (h : ltb k 10 || ltb lastKind k ≡ false) where
   by-line : roleNumber (roleOf v k) ≡ roleNumber (roleIn (shapeOf v (k / 10)) (k % 10))
   by-line = go (ltb k 10) refl h
     where
-      go : (b : Bool) → ltb k 10 ≡ b → b || ltb 159 k ≡ false → roleNumber (roleOf v k) ≡ roleNumber (roleIn (shapeOf v (k / 10)) (k % 10))
+      go : (b : Bool) → ltb k 10 ≡ b → b || ltb lastKind k ≡ false → roleNumber (roleOf v k) ≡ roleNumber (roleIn (shapeOf v (k / 10)) (k % 10))
       go true e i = absurd (false≢true (sym i))
       go false e i =
           let z : role-right v k ≡ eqb (roleNumber (roleIn (shapeOf v (k / 10)) (k % 10))) (roleNumber (roleOf v k)) = rw e in
-          sym (eqb-true _ _ (sym z ∙ below-all 160 (role-right v) (all-right v) k (omega (arith, ltb-false 159 k i))))
+          sym (eqb-true _ _ (sym z ∙ below-all (suc lastKind) (role-right v) (all-right v) k (omega (arith, ltb-false lastKind k i))))
 
   pub role-opens : k % 10 ≡ 0 → 0 ≡ roleNumber (roleOf v k)
   role-opens e = rw (by-line, e)

@@ -49,7 +49,7 @@ fn third_role(v: Rules, s: u64) -> u64
 pub fn role_of(v: Rules, kind: u64) -> u64
     ensures { λ r. ⌜ r ≡ roleNumber (roleOf v kind) ⌝ }
 {
-    if (kind < 10) | (159 < kind) {
+    if (kind < 10) | (rows::LAST_KIND < kind) {
         return 10;
     }
     let s = kind / 10;

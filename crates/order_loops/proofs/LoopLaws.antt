@@ -2,7 +2,7 @@
 use Prim.Native.Nat.{zero, suc}
 use mathlib.Core.Path.{_≡_, refl, sym, ap, _∙_}
 use mathlib.Core.Option.{Option, none, some}
-use mathlib.Core.Bool.{Bool, true, false, not, cond, _&&_, _||_, true≢false, false≢true}
+use mathlib.Core.Bool.{Bool, true, false, not, cond, _&&_, _||_, true≢false, false≢true, or-false}
 use native.Mathlib.Omega.{arith}
 use mir.Syntax.{w64}
 use mir.Val.{SFits, toZ, ofZ}
@@ -10,47 +10,19 @@ use mir.ValLaws.{toZ-ofZ}
 use borrow.Author.Tests.{eqb-true, eqb-false, eq-eqb, ne-eqb}
 use lib.Dec.{eqb}
 use lib.IntN.{ℤ, pos, negsuc, sucℤ, _+ℤ_, +ℤ-sucℤ, +ℤ-idr}
-use Rattle.number.proofs.SignLaws.{back}
-use Rattle.order_loops.specs.Loops.{eqZ, firstLabel, placeAt, samePlace, goesOn, closes, reached, loopAfter}
+use Rattle.rows.specs.declared.Point.{Point}
+use Rattle.basics.specs.Integers.{eqZ}
+use Rattle.basics.proofs.Integers.{back, eqZ-true, eqZ-self, back-same, same-as}
+use Rattle.order_loops.specs.Loops.{firstLabel, placeAt, samePlace, goesOn, closes, reached, loopAfter}
 use Rattle.order_loops.specs.Answers.{looped, turnsBy, begunBy, wentOn, nextLoop, secondBy, afterBack}
 use Rattle.order_loops.specs.declared.Place.{Place}
-use Rattle.order_loops.specs.declared.Point.{Point}
 use Rattle.order_loops.specs.declared.LoopState.{LoopState}
 use Rattle.order_loops.specs.declared.LoopState.the-variants.{NoPoint, OnePoint, Away, Back, Round}
 use Rattle.order_loops.specs.declared.LoopAnswer.{LoopAnswer}
 use Rattle.order_loops.specs.declared.LoopAnswer.the-variants.{Onward, Broken}
 
-eqZ-true : (a b : ℤ) → eqZ a b ≡ true → a ≡ b
-unfolding eqZ
-eqZ-true (pos a) (pos b) h = ap pos (eqb-true a b h)
-eqZ-true (pos a) (negsuc b) h = absurd (false≢true h)
-eqZ-true (negsuc a) (pos b) h = absurd (false≢true h)
-eqZ-true (negsuc a) (negsuc b) h = ap negsuc (eqb-true a b h)
-
-eqZ-self : (a : ℤ) → eqZ a a ≡ true
-unfolding eqZ
-eqZ-self (pos a) = eq-eqb a a refl
-eqZ-self (negsuc a) = eq-eqb a a refl
-
 -- two numbers that fit are the same exactly where their bits are
-pub bits-same : (a b : ℤ) → SFits w64 a → SFits w64 b → eqb (ofZ w64 a) (ofZ w64 b) ≡ eqZ a b
-bits-same a b fa fb = go (eqZ a b) refl
-  where
-    go : (t : Bool) → eqZ a b ≡ t → eqb (ofZ w64 a) (ofZ w64 b) ≡ t
-    go true e = eq-eqb (ofZ w64 a) (ofZ w64 b) (ap (ofZ w64) (eqZ-true a b e))
-    go false e = ne-eqb (ofZ w64 a) (ofZ w64 b) (λ h. let z : a ≡ b = sym (toZ-ofZ w64 a fa) ∙ ap (toZ w64) h ∙ toZ-ofZ w64 b fb in true≢false (sym (rw z (eqZ-self b)) ∙ e))
-
-pub back-same : (a b : ℤ) (r : Bool) → SFits w64 a → SFits w64 b → r ≡ eqZ (back a) (back b) → r ≡ eqZ a b
-back-same a b r fa fb e = rw e (rw (toZ-ofZ w64 a fa, toZ-ofZ w64 b fb))
-
-pub both-same : (a b c d : ℤ) (r q : Bool) → SFits w64 a → SFits w64 b → SFits w64 c → SFits w64 d → r ≡ eqZ (back a) (back b) → q ≡ eqZ (back c) (back d)
-    → (r && q) ≡ (eqZ a b && eqZ c d)
-both-same a b c d r q fa fb fc fd e f = rw (back-same a b r fa fb e, back-same c d q fc fd f)
-
 -- with a number that is written in the code
-pub same-as : (a b : ℤ) (r : Bool) → SFits w64 a → r ≡ eqZ (back a) b → r ≡ eqZ a b
-same-as a b r fa e = rw e (rw (toZ-ofZ w64 a fa))
-
 pub goes-is : (l : ℤ) (q p : Place) (d : Point) (x y z : Bool) → SFits w64 (d .label) → SFits w64 l → x ≡ eqZ (back (d .label)) (back l) → p ≡ placeAt d → y ≡ samePlace p q → z ≡ turnsBy d
     → (x && not y && not z) ≡ goesOn l q d
 goes-is l q p d x y z fd fl e f g h = rw (back-same (d .label) l x fd fl e, g, f, h)
@@ -62,10 +34,6 @@ closes-is l q p d x y z fd fl e f g h = rw (back-same (d .label) l x fd fl e, g,
 -- 0 where there are many loops, elsewhere 0 or 1
 pub first-is : (many p q : Bool) (l : ℤ) → SFits w64 l → p ≡ eqZ (back l) (pos 0) → q ≡ eqZ (back l) (pos 1) → (p || (not many && q)) ≡ firstLabel many l
 first-is true p q l fl e f = or-false p ∙ same-as l (pos 0) p fl e
-  where
-    or-false : (p : Bool) → (p || false) ≡ p
-    or-false true = refl
-    or-false false = refl
 first-is false p q l fl e f = rw (same-as l (pos 0) p fl e, same-as l (pos 1) q fl f)
 
 pub reached-back : (l : ℤ) (f p : Place) (x : Bool) → SFits w64 l → x ≡ samePlace p f → x ≡ true → Back (back l) f ≡ reached l f p

@@ -2,10 +2,11 @@
 use mathlib.Core.Option.{Option, none, some}
 use mathlib.Core.Bool.{Bool, cond, _&&_}
 use lib.IntN.{ℤ, sucℤ}
+use Rattle.rows.specs.declared.Point.{Point}
+use Rattle.basics.specs.Integers.{eqZ}
 use Rattle.law.specs.Limits.{wholeTurn}
-use Rattle.order_loops.specs.Loops.{eqZ, placeAt, begins, goesOn, closes, reached}
+use Rattle.order_loops.specs.Loops.{placeAt, begins, goesOn, closes, reached}
 use Rattle.order_loops.specs.declared.Place.{Place}
-use Rattle.order_loops.specs.declared.Point.{Point}
 use Rattle.order_loops.specs.declared.LoopState.{LoopState}
 use Rattle.order_loops.specs.declared.LoopAnswer.{LoopAnswer}
 use Rattle.order_loops.specs.declared.LoopState.the-variants.{Round}

@@ -3,18 +3,12 @@ use mathlib.Core.Option.{Option, none, some}
 use mathlib.Core.Bool.{Bool, true, false, cond, not, _&&_, _||_}
 use lib.Dec.{eqb}
 use lib.IntN.{ℤ, pos, negsuc, sucℤ}
+use Rattle.basics.specs.Integers.{eqZ}
+use Rattle.rows.specs.declared.Point.{Point}
 use Rattle.law.specs.Limits.{wholeTurn}
 use Rattle.order_loops.specs.declared.Place.{Place}
-use Rattle.order_loops.specs.declared.Point.{Point}
 use Rattle.order_loops.specs.declared.LoopState.{LoopState}
 use Rattle.order_loops.specs.declared.LoopState.the-variants.{NoPoint as noPoint, OnePoint as onePoint, Away as away, Back as back, Round as round}
-
--- two integers are the same
-unfoldable pub eqZ : ℤ → ℤ → Bool
-eqZ (pos a) (pos b) = eqb a b
-eqZ (pos a) (negsuc b) = false
-eqZ (negsuc a) (pos b) = false
-eqZ (negsuc a) (negsuc b) = eqb a b
 
 -- one point, whatever its spelling
 abbrev pub samePlace : Place → Place → Bool

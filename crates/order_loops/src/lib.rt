@@ -1,23 +1,18 @@
 // The loop rule, one point at a time: circles of two lines, and paths that end where they began.
+use basics::same_integers;
 use number::Angle;
 use number::Length;
+use rows::Point;
 ghost use mathlib.Core.Path.{_≡_};
 ghost use lib.IntN.{sucℤ};
-ghost use Rattle.order_loops.specs.Loops.{eqZ, samePlace, placeAt, firstLabel, goesOn, closes, reached, loopAfter, complete};
+ghost use Rattle.basics.specs.Integers.{eqZ};
+ghost use Rattle.order_loops.specs.Loops.{samePlace, placeAt, firstLabel, goesOn, closes, reached, loopAfter, complete};
 ghost use Rattle.order_loops.specs.Answers.{looped, turnsBy, begunBy, wentOn, nextLoop, secondBy, afterBack};
 
 // A place in the plane.
 pub struct Place {
     pub x: Length,
     pub y: Length,
-}
-
-// A point line: its loop's label, its place, its included angle.
-pub struct Point {
-    pub label: i64,
-    pub x: Length,
-    pub y: Length,
-    pub angle: Angle,
 }
 
 // A section's points so far, with label, first place and last place: none; one; two or more and not back; back at the first; a circle.
@@ -35,28 +30,21 @@ pub enum LoopAnswer {
     Broken,
 }
 
-// Whether two numbers are the same.
-pub fn same(a: i64, b: i64) -> bool
-    ensures { λ r. ⌜ r ≡ eqZ a b ⌝ }
-{
-    a == b
-}
-
 // Whether b is one more than a.
 fn follows(a: i64, b: i64) -> bool
     ensures { λ r. ⌜ r ≡ eqZ b (sucℤ a) ⌝ }
 {
-    if same(a, 9_223_372_036_854_775_807) {
+    if same_integers(a, 9_223_372_036_854_775_807) {
         return false;
     }
-    same(b, a + 1)
+    same_integers(b, a + 1)
 }
 
 // Whether two places are one.
 fn same_place(p: Place, q: Place) -> bool
     ensures { λ r. ⌜ r ≡ samePlace p q ⌝ }
 {
-    same(p.x.0, q.x.0) & same(p.y.0, q.y.0)
+    same_integers(p.x.0, q.x.0) & same_integers(p.y.0, q.y.0)
 }
 
 // Where a point is.
@@ -72,21 +60,21 @@ fn place_at(d: Point) -> Place
 fn turns(d: Point) -> bool
     ensures { λ r. ⌜ r ≡ turnsBy d ⌝ }
 {
-    same(d.angle.0, Angle::FULL_TURN as i64)
+    same_integers(d.angle.0, Angle::FULL_TURN as i64)
 }
 
 // Whether a point with this label, not at q and not 360, goes on.
 fn goes_on(label: i64, q: Place, d: Point) -> bool
     ensures { λ r. ⌜ r ≡ goesOn label q d ⌝ }
 {
-    same(d.label, label) & !same_place(place_at(d), q) & !turns(d)
+    same_integers(d.label, label) & !same_place(place_at(d), q) & !turns(d)
 }
 
 // Whether a point is the second line of a circle that began at f.
 fn closes(label: i64, f: Place, d: Point) -> bool
     ensures { λ r. ⌜ r ≡ closes label f d ⌝ }
 {
-    same(d.label, label) & !same_place(place_at(d), f) & turns(d)
+    same_integers(d.label, label) & !same_place(place_at(d), f) & turns(d)
 }
 
 // A loop that began at f and has come to p.
@@ -104,7 +92,7 @@ fn reached(label: i64, f: Place, p: Place) -> LoopState
 fn begins(may: bool, label: i64, d: Point) -> LoopAnswer
     ensures { λ r. ⌜ r ≡ begunBy may label d ⌝ }
 {
-    if may & same(d.angle.0, 0) {
+    if may & same_integers(d.angle.0, 0) {
         LoopAnswer::Onward(LoopState::OnePoint(label, place_at(d)))
     } else {
         LoopAnswer::Broken
@@ -115,7 +103,7 @@ fn begins(may: bool, label: i64, d: Point) -> LoopAnswer
 fn first_label(many: bool, label: i64) -> bool
     ensures { λ r. ⌜ r ≡ firstLabel many label ⌝ }
 {
-    same(label, 0) | (!many & same(label, 1))
+    same_integers(label, 0) | (!many & same_integers(label, 1))
 }
 
 // A further point of the loop, or none.

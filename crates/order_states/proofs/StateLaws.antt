@@ -5,6 +5,7 @@ use mathlib.Core.Option.{Option, none, some}
 use mathlib.Core.Bool.{Bool, true, false, not, _&&_, _||_}
 use borrow.Author.Tests.{ne-eqb}
 use lib.Dec.{leb, eqb}
+use Rattle.rows.specs.declared.Point.{Point}
 use Rattle.law.specs.Kinds.{sectionOf, roleOf}
 use Rattle.law.specs.declared.Rules.{Rules}
 use Rattle.law.specs.declared.Rules.the-variants.{Idf3}
@@ -14,7 +15,6 @@ use Rattle.order_loops.specs.Loops.{loopAfter, complete}
 use Rattle.order_loops.specs.Answers.{looped}
 use Rattle.order.specs.Stages.{mayOpen, afterHeaded, after}
 use Rattle.order.specs.Automaton.{startOf, roleNumber, afterTitle, afterPoint, onOrOut, standsBy, mayStand, amongPoints, movedBy, moved, stepped, typeAt}
-use Rattle.order_loops.specs.declared.Point.{Point}
 use Rattle.order.specs.declared.Stage.{Stage}
 use Rattle.order.specs.declared.Stage.the-variants.{Headed, Middle, Finished}
 use Rattle.order_loops.specs.declared.LoopState.{LoopState}
@@ -50,7 +50,7 @@ goes-at t u r h e = rw h e
 pub after-at : (g k : Stage) (s : ℕ) (r : Stage) → g ≡ k → r ≡ after k s → r ≡ after g s
 after-at g k s r h e = rw h e
 
-pub after-last : (g : Stage) (t : FileType) (h n : Bool) (s : ℕ) → g ≡ Middle t h n → s ≡ 13 → Finished ≡ after g s
+pub after-last : (g : Stage) (t : FileType) (h n : Bool) (s : ℕ) → g ≡ Middle t h n → s ≡ 13 → Finished t ≡ after g s
 unfolding after
 after-last g t h n s e f = rw (e, f)
 

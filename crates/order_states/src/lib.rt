@@ -3,6 +3,7 @@ pub mod stages;
 
 use law::FileType;
 use law::Rules;
+use law::refusals;
 use order::Outcome;
 use order::Phase;
 use order::Reason;
@@ -10,7 +11,7 @@ use order::Stage;
 use order::State;
 use order_loops::LoopAnswer;
 use order_loops::LoopState;
-use order_loops::Point;
+use rows::Point;
 ghost use mathlib.Core.Path.{_≡_};
 ghost use Rattle.law.specs.Kinds.{roleOf};
 ghost use Rattle.order_loops.specs.Loops.{loopAfter};
@@ -157,7 +158,7 @@ pub fn moved(v: Rules, st: State, kind: u64, role: u64, t: FileType, d: Point) -
 }
 
 // What a line does whose values fit, with the type and the point in it: the next state, or a refusal.
-pub fn advance(v: Rules, st: State, kind: u64, t: FileType, d: Point) -> Outcome
+pub fn stepped(v: Rules, st: State, kind: u64, t: FileType, d: Point) -> Outcome
     ensures { λ r. ⌜ r ≡ stepped v st kind t d ⌝ }
 {
     let role = order_kinds::role_of(v, kind);
@@ -173,10 +174,10 @@ pub fn refusal_number(e: Reason, fields: u64) -> u64
     ensures { λ r. ⌜ r ≡ refusalNumber e fields ⌝ }
 {
     match e {
-        Reason::Misplaced => 5,
+        Reason::Misplaced => refusals::MISPLACED,
         Reason::Unfit => fields,
-        Reason::BadLoop => 11,
-        Reason::Repeated => 12,
+        Reason::BadLoop => refusals::LOOP_RULE,
+        Reason::Repeated => refusals::NAME_AGAIN,
     }
 }
 

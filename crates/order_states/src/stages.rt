@@ -3,7 +3,7 @@ use law::FileType;
 use law::Rules;
 use order::Stage;
 ghost use mathlib.Core.Path.{_≡_};
-ghost use Rattle.law.specs.Records.{isLibrary, isMiddle};
+ghost use Rattle.law.specs.Records.{isMiddle};
 ghost use Rattle.order.specs.Stages.{mayOpen, after, afterHeaded, mayEnd, fileOf};
 ghost use Rattle.order.specs.declared.Stage.the-variants.{Headed, Middle};
 
@@ -40,18 +40,7 @@ pub fn may_open(v: Rules, g: Stage, s: u64) -> bool
         Stage::Nothing => s == 1,
         Stage::Headed(t) => headed_opens(v, t, s),
         Stage::Middle(t, holes, notes) => middle_opens(v, t, holes, notes, s),
-        Stage::Finished => false,
-    }
-}
-
-// Whether a file is a library.
-fn is_library(t: FileType) -> bool
-    ensures { λ r. ⌜ r ≡ isLibrary t ⌝ }
-{
-    match t {
-        FileType::Board => false,
-        FileType::Panel => false,
-        FileType::Library => true,
+        Stage::Finished(..) => false,
     }
 }
 
@@ -61,9 +50,9 @@ pub(crate) fn may_end(g: Stage) -> bool
 {
     match g {
         Stage::Nothing => false,
-        Stage::Headed(t) => is_library(t),
+        Stage::Headed(t) => rows::is_library(t),
         Stage::Middle(..) => false,
-        Stage::Finished => true,
+        Stage::Finished(..) => true,
     }
 }
 
@@ -87,12 +76,12 @@ pub(crate) fn after(g: Stage, s: u64) -> Stage
         Stage::Headed(t) => after_headed(t),
         Stage::Middle(t, holes, notes) => {
             if s == 13 {
-                Stage::Finished
+                Stage::Finished(t)
             } else {
                 Stage::Middle(t, holes | (s == 11), notes | (s == 12))
             }
         }
-        Stage::Finished => Stage::Finished,
+        Stage::Finished(t) => Stage::Finished(t),
     }
 }
 
@@ -104,6 +93,6 @@ pub(crate) fn file_of(g: Stage) -> FileType
         Stage::Nothing => FileType::Library,
         Stage::Headed(t) => t,
         Stage::Middle(t, _, _) => t,
-        Stage::Finished => FileType::Library,
+        Stage::Finished(t) => t,
     }
 }

@@ -11,6 +11,7 @@ use lib.Dec.{eqb, ltb}
 use lib.IntN.{ℤ}
 use lib.ListN.{length, take, drop, length-append, take-append-drop}
 use lib.Seq.{paste, length-paste, take-paste, drop-paste, take-all, drop-drop}
+use Rattle.read.proofs.ReplyLaws.{accepted-small}
 use Rattle.law.specs.Rows.{width}
 use Rattle.walk.specs.declared.Found.{Found}
 use Rattle.walk.specs.declared.Found.the-variants.{Row, Nothing, Refused}
@@ -163,12 +164,7 @@ module _ (file : List ℕ) (rows : List ℤ) (c : Reply) (e : c ≡ checkReply f
 
   module _ (h : c .number ≡ 0) where
     pub read-small : length file ≤ limit
-    unfolding checkReply
-    read-small = go (ltb limit (length file)) refl (ap (λ (x : Reply). x .number) (sym e) ∙ h)
-      where
-        go : (b : Bool) → ltb limit (length file) ≡ b → cond b (reply 1 0 0) (cond (eqb (repeatOf file) 0) (survey file) (reply 12 (repeatOf file) 0)) .number ≡ 0 → length file ≤ limit
-        go true i k = absurd (omega arith)
-        go false i k = ltb-false limit (length file) i
+    read-small = accepted-small file c e h
 
     pub read-short : length rows / 10 < c .count → reply 2 0 (c .count) ≡ readReply file (length rows)
     unfolding readReply

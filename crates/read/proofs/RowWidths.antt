@@ -8,6 +8,7 @@ use borrow.Author.Tests.{eqb-false}
 use lib.Dec.{eqb, ltb}
 use lib.IntN.{ℤ, pos}
 use lib.ListN.{length, set, length-append, length-set}
+use Rattle.rows.specs.Columns.{pointIn, typeInRow}
 use Rattle.law.specs.Fits.{under}
 use Rattle.law.specs.Layouts.{typesOf}
 use Rattle.law.specs.declared.Context.{Context}
@@ -27,11 +28,11 @@ use Rattle.order.specs.declared.Outcome.{Outcome}
 use Rattle.order.specs.declared.Outcome.the-variants.{Next, Refused as Stops}
 use Rattle.walk.specs.declared.Found.{Found}
 use Rattle.walk.specs.declared.Found.the-variants.{Row, Nothing, Refused}
-use Rattle.walk.specs.declared.Judged.{Judged}
+use Rattle.walk.specs.declared.JudgedLine.{JudgedLine}
 use Rattle.law.specs.declared.Reply.{Reply}
 use Rattle.walk.specs.declared.Walk.{Walk}
 use Rattle.walk.specs.declared.Turn.{Turn}
-use Rattle.walk.specs.Judging.{refusedBy, freeBy, pointIn, typeInRow, movedRow, filledBy, judged}
+use Rattle.walk.specs.Judging.{refusedBy, freeBy, movedRow, filledBy, judged}
 use Rattle.law.specs.Answers.{limit, reply}
 use Rattle.walk.specs.Walks.{begun, turnOf, lineIn, Trace, done, row, traceBy, traceIn, traceAt}
 use Rattle.names.specs.Names.{repeatOf}
@@ -61,7 +62,7 @@ fill-long c b s (t ∷ ts) f h = go (eqb (g .refused) 0) (fill-long c b s ts g k
     go true i = i
     go false i = k
 
-Wide : Judged → Type 0
+Wide : JudgedLine → Type 0
 Wide j = length (j .row) ≡ width
 
 wide-free : (st : State) → Wide (freeBy st)
@@ -96,7 +97,7 @@ turn-wide file w = wide-judged Idf3 (w .state) (w .at) _
 
 -- no refusal has the number 0
 
-Told : Judged → Type 0
+Told : JudgedLine → Type 0
 Told j = (n : ℕ) → j .found ≡ Refused n → n ≡ 0 → ⊥
 
 told-refused : (st : State) (n : ℕ) → (n ≡ 0 → ⊥) → Told (refusedBy st n)

@@ -8,10 +8,13 @@ use lib.IntN.{ℤ}
 use lib.ListN.{length}
 use lib.Seq.{paste}
 use Rattle.law.specs.Rows.{width}
-use Rattle.order.specs.Automaton.{accepting}
+use Rattle.order.specs.Automaton.{accepting, typeAt}
 use Rattle.walk.specs.declared.Found.{Found}
 use Rattle.walk.specs.declared.Found.the-variants.{Row, Nothing, Refused}
+use Rattle.law.specs.declared.FileType.{FileType}
+use Rattle.law.specs.declared.FileType.the-variants.{Library}
 use Rattle.law.specs.declared.Reply.{Reply}
+use Rattle.read.specs.declared.Checked.{Checked}
 use Rattle.walk.specs.declared.Walk.{Walk}
 use Rattle.walk.specs.declared.Turn.{Turn}
 use Rattle.law.specs.Answers.{limit, reply, over}
@@ -46,6 +49,23 @@ withinReply file = cond (eqb (repeatOf file) 0) (survey file) (reply 12 (repeatO
 -- 1 first; then the first faulty line, where 12 comes after all other numbers; then 13
 unfoldable pub checkReply : List ℕ → Reply
 checkReply file = cond (ltb limit (length file)) (reply 1 0 0) (withinReply file)
+
+-- the file's type, as the state behind its last line has it; a library's stands for it where a line is refused
+unfoldable pub typeFrom : Trace → FileType
+typeFrom (done w) = typeAt (w .state)
+typeFrom (stop n l) = Library
+typeFrom (skip l t) = typeFrom t
+typeFrom (row l x t) = typeFrom t
+
+abbrev pub typeOf : List ℕ → FileType
+typeOf file = typeFrom (traceOf file)
+
+-- the reply on a file and its type, within the limit and beyond it
+abbrev pub examinedWithin : List ℕ → Checked
+examinedWithin file = record { reply = withinReply file; file = typeOf file }
+
+unfoldable pub examined : List ℕ → Checked
+examined file = record { reply = checkReply file; file = cond (ltb limit (length file)) Library (typeOf file) }
 
 -- the rows of a file, one after the other
 unfoldable pub rowsIn : Trace → List ℤ

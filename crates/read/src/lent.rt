@@ -1,5 +1,5 @@
 // Rows into a lent slice.
-use line_rows::WIDTH;
+use rows::WIDTH;
 use walk::Turn;
 use walk::steps;
 ghost use mathlib.Core.Path.{_≡_};

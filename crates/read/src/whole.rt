@@ -1,12 +1,15 @@
 // A whole file, checked or read into lent rows.
+use crate::Checked;
 use crate::lent;
+use law::FileType;
 use law::Reply;
-use line_rows::WIDTH;
+use law::refusals;
 use names::DOUBTS;
 use names::FEW;
 use names::MARKS;
 use names::SMALL;
 use order::LIMIT;
+use rows::WIDTH;
 use walk::Found;
 use walk::Walk;
 use walk::steps;
@@ -15,7 +18,7 @@ ghost use Prim.Native.Nat.{_^_, _≤_, _<_};
 ghost use lib.ListN.{length};
 ghost use Rattle.law.specs.Answers.{limit, reply};
 ghost use Rattle.names.specs.Marks.{Doubted};
-ghost use Rattle.read.specs.Replies.{countedBy, endedBy, survey, checkReply, readReply, readRows, withinReply};
+ghost use Rattle.read.specs.Replies.{countedBy, endedBy, survey, checkReply, typeOf, examinedWithin, examined, readReply, readRows};
 
 // A refusal without a count.
 fn refusal(number: u64, line: u64) -> Reply
@@ -52,12 +55,13 @@ fn ended(r: Reply, w: Walk) -> Reply
     if order_states::accepting(st) {
         return r;
     }
-    refusal(13, w.line)
+    refusal(refusals::TOO_EARLY, w.line)
 }
 
-// What the first walk over a file tells: its reply but for names used twice, and whether a name is doubtful.
+// What the first walk over a file tells: its reply but for names used twice, its type, and whether a name is doubtful.
 struct FirstWalk {
     reply: Reply,
+    file: FileType,
     doubtful: bool,
 }
 
@@ -66,6 +70,7 @@ struct FirstWalk {
 fn surveyed(file: &[u8], marks: &mut [u16], doubts: &mut [u16]) -> FirstWalk
     requires { ⌜ (length (now file) ≤ limit) × (0 < length (now marks)) × (0 < length (now doubts)) ⌝ }
     ensures { λ r. ⌜ r .reply ≡ survey (now (file .entry)) ⌝ }
+    ensures { λ r. ⌜ r .file ≡ typeOf (now (file .entry)) ⌝ }
     ensures { λ r. ⌜ Doubted (now (file .entry)) (now (doubts .exit)) (r .doubtful) ⌝ }
 {
     let mut w = steps::begin();
@@ -80,6 +85,7 @@ fn surveyed(file: &[u8], marks: &mut [u16], doubts: &mut [u16]) -> FirstWalk
         if steps::stops(found) {
             return FirstWalk {
                 reply: r,
+                file: FileType::Library,
                 doubtful: doubtful,
             };
         }
@@ -89,33 +95,40 @@ fn surveyed(file: &[u8], marks: &mut [u16], doubts: &mut [u16]) -> FirstWalk
         w = t.walk;
         at = w.at;
     }
+    let st = w.state;
     FirstWalk {
         reply: ended(r, w),
+        file: order_states::type_at(st),
         doubtful: doubtful,
     }
 }
 
 // A file by all rules but size; a second walk decides on doubtful names, where there are any.
-fn walked(file: &[u8], marks: &mut [u16], doubts: &mut [u16]) -> Reply
+fn walked(file: &[u8], marks: &mut [u16], doubts: &mut [u16]) -> Checked
     requires { ⌜ (length (now file) ≤ limit) × (0 < length (now marks)) × (0 < length (now doubts)) ⌝ }
-    ensures { λ r. ⌜ r ≡ withinReply (now (file .entry)) ⌝ }
+    ensures { λ r. ⌜ r ≡ examinedWithin (now (file .entry)) ⌝ }
 {
     let s = surveyed(file, marks, doubts);
     let r = s.reply;
+    let t = s.file;
     if !s.doubtful {
-        return r;
+        return Checked { reply: r, file: t };
     }
     let n = names::first_repeat(file, doubts);
     if n == 0 {
-        return r;
+        return Checked { reply: r, file: t };
     }
-    refusal(12, n)
+    let again = refusal(refusals::NAME_AGAIN, n);
+    Checked {
+        reply: again,
+        file: t,
+    }
 }
 
 // A file within the limit, with few marks at hand.
-fn by_few(file: &[u8]) -> Reply
+fn by_few(file: &[u8]) -> Checked
     requires { ⌜ length (now file) ≤ limit ⌝ }
-    ensures { λ r. ⌜ r ≡ withinReply (now (file .entry)) ⌝ }
+    ensures { λ r. ⌜ r ≡ examinedWithin (now (file .entry)) ⌝ }
 {
     let mut marks: [u16; FEW] = [0; FEW];
     let mut doubts: [u16; DOUBTS] = [0; DOUBTS];
@@ -123,26 +136,38 @@ fn by_few(file: &[u8]) -> Reply
 }
 
 // The same with all marks.
-fn by_all(file: &[u8]) -> Reply
+fn by_all(file: &[u8]) -> Checked
     requires { ⌜ length (now file) ≤ limit ⌝ }
-    ensures { λ r. ⌜ r ≡ withinReply (now (file .entry)) ⌝ }
+    ensures { λ r. ⌜ r ≡ examinedWithin (now (file .entry)) ⌝ }
 {
     let mut marks: [u16; MARKS] = [0; MARKS];
     let mut doubts: [u16; DOUBTS] = [0; DOUBTS];
     walked(file, &mut marks, &mut doubts)
 }
 
-// A file's reply: 0 with the number of its rows, or its first refusal. A small file has a small table, which is sooner empty.
-pub fn check(file: &[u8]) -> Reply
-    ensures { λ r. ⌜ r ≡ checkReply (now (file .entry)) ⌝ }
+// A file's reply and its type. A small file has a small table, which is sooner empty.
+pub fn examined(file: &[u8]) -> Checked
+    ensures { λ r. ⌜ r ≡ examined (now (file .entry)) ⌝ }
 {
     if LIMIT < file.len() {
-        return refusal(1, 0);
+        let large = refusal(refusals::TOO_LARGE, 0);
+        return Checked {
+            reply: large,
+            file: FileType::Library,
+        };
     }
     if file.len() < SMALL {
         return by_few(file);
     }
     by_all(file)
+}
+
+// A file's reply: 0 with the number of its rows, or its first refusal.
+pub fn check(file: &[u8]) -> Reply
+    ensures { λ r. ⌜ r ≡ checkReply (now (file .entry)) ⌝ }
+{
+    let c = examined(file);
+    c.reply
 }
 
 // A file's rows from the front of the slice on, where they fit; the slice stays as it is on every refusal.
@@ -156,7 +181,7 @@ pub fn read(file: &[u8], rows: &mut [i64]) -> Reply
     }
     if ((rows.len() / WIDTH) as u64) < r.count {
         return Reply {
-            number: 2,
+            number: refusals::FEW_ROWS,
             line: 0,
             count: r.count,
         };

@@ -13,8 +13,8 @@ use lib.Dec.{ltb}
 use lib.IntN.{ℤ, natAbs}
 use lib.ListN.{length, take, drop, length-drop}
 use lib.Seq.{take-all}
-use Rattle.text.proofs.Lists.{at-end}
-use Rattle.number.proofs.SignLaws.{back}
+use Rattle.basics.proofs.Integers.{back}
+use Rattle.basics.proofs.Lists.{at-end}
 use Rattle.law.specs.Words.{sameBytes}
 use Rattle.names_slots.specs.Hashes.{hashed}
 use Rattle.rows_texts.specs.Texts.{textAt, textIs, sameTexts}

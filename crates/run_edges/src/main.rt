@@ -1,6 +1,5 @@
-// What the two lowest layers answer on edge cases and damaged input, a line each.
+// Runs the floors text and number on edge cases and damaged input: what they answer, a line each.
 mod numbers;
-mod saying;
 mod texts;
 
 fn main() {

@@ -1,17 +1,18 @@
-// Numbers, integers and dates.
-use crate::saying::end_line;
-use crate::saying::say;
-use crate::saying::say_signed;
+// Numbers, integers and dates on edge cases.
 use number::NumberAnswer;
 use number::WholeAnswer;
+use run::saying;
+use run::saying::end_line;
+use run::saying::say;
 
+// Prints what a length reads as.
 fn number(name: &[u8], s: &[u8]) {
     say(b"number ");
     say(name);
     match number_read::number(s, 5, number::Length::LARGEST) {
         NumberAnswer::Count(z) => {
             say(b": ");
-            say_signed(z);
+            saying::signed(z);
         }
         NumberAnswer::NotNumber => {
             say(b": no number");
@@ -23,13 +24,14 @@ fn number(name: &[u8], s: &[u8]) {
     end_line();
 }
 
+// Prints what an integer reads as.
 fn integer(name: &[u8], s: &[u8]) {
     say(b"integer ");
     say(name);
     match number_read::integer(s) {
         WholeAnswer::Whole(z) => {
             say(b": ");
-            say_signed(z.0);
+            saying::signed(z.0);
         }
         WholeAnswer::NotInteger => {
             say(b": no integer");
@@ -38,6 +40,7 @@ fn integer(name: &[u8], s: &[u8]) {
     end_line();
 }
 
+// Prints whether bytes are a date.
 fn date(s: &[u8]) {
     say(b"date ");
     say(s);
@@ -49,6 +52,7 @@ fn date(s: &[u8]) {
     end_line();
 }
 
+// Bytes that are no number.
 pub(crate) fn malformed_numbers() {
     number(b"nothing", b"");
     number(b"+", b"+");
@@ -60,6 +64,7 @@ pub(crate) fn malformed_numbers() {
     number(b"byte 255", b"\xff");
 }
 
+// Numbers on either side of a limit.
 pub(crate) fn limits_of_numbers() {
     number(b"-0", b"-0");
     number(b"-0.00001", b"-0.00001");
@@ -70,6 +75,7 @@ pub(crate) fn limits_of_numbers() {
     number(b"99999999999999999999999999", b"99999999999999999999999999");
 }
 
+// A number of one digit behind 10,000 zeros.
 pub(crate) fn long_number() {
     let mut zeros = [48u8; 10_001];
     zeros[10_000] = 55;
@@ -81,12 +87,14 @@ fn million(name: &[u8], long: &[u8; 1_000_002]) {
     number(name, long);
 }
 
+// A number with a million decimals, all of them 0.
 pub(crate) fn million_zeros() {
     let mut long = [48u8; 1_000_002];
     long[1] = 46;
     million(b"0. and a million zeros", &long);
 }
 
+// A number with a million decimals, the last of them 1.
 pub(crate) fn million_decimals() {
     let mut long = [48u8; 1_000_002];
     long[1] = 46;
@@ -94,6 +102,7 @@ pub(crate) fn million_decimals() {
     million(b"0. and a million decimals, the last 1", &long);
 }
 
+// Integers, and bytes that are none.
 pub(crate) fn integers() {
     integer(b"nothing", b"");
     integer(b"-", b"-");
@@ -107,6 +116,7 @@ pub(crate) fn integers() {
     integer(b"- and 9,999 zeros and 7", &zeros);
 }
 
+// Dates, and bytes that are none.
 pub(crate) fn dates() {
     date(b"");
     date(b"0000/02/31.23:59:59");

@@ -1,17 +1,16 @@
 // Bytes, lines and the fields of a line.
-use crate::saying::end_line;
-use crate::saying::say;
-use crate::saying::say_number;
+use run::saying;
+use run::saying::end_line;
+use run::saying::say;
 use text::ByteClass;
+use text::LineEnd;
 use text_fields::CountAnswer;
 use text_fields::FieldAnswer;
-use text_fields::LineLook;
-ghost use mathlib.Core.Path.{_≡_};
-ghost use Rattle.text.specs.Lines.{lineEnd};
 
+// Prints the class of a byte.
 fn class(b: u8) {
     say(b"byte ");
-    say_number(b as u64);
+    saying::number(b as u64);
     match text::class(b) {
         ByteClass::Space => {
             say(b": space");
@@ -29,20 +28,26 @@ fn class(b: u8) {
     end_line();
 }
 
+// Prints what a line is at first sight: a comment has # in column 1, a blank line has no field.
 fn say_look(line: &[u8]) {
-    match text_fields::look(line) {
-        LineLook::Comment => {
-            say(b"comment");
-        }
-        LineLook::Blank => {
+    if text::begins_with(line, 35) {
+        say(b"comment");
+        return;
+    }
+    match text_fields::field(line) {
+        FieldAnswer::Nothing => {
             say(b"blank");
         }
-        LineLook::Other => {
+        FieldAnswer::Broken => {
+            say(b"other");
+        }
+        FieldAnswer::Got { .. } => {
             say(b"other");
         }
     }
 }
 
+// Prints the first field of a line: whether it is quoted, its start, its length, and where the next begins.
 fn say_first(line: &[u8]) {
     match text_fields::field(line) {
         FieldAnswer::Nothing => {
@@ -62,15 +67,14 @@ fn say_first(line: &[u8]) {
             } else {
                 say(b"bare ");
             }
-            say_number(start as u64);
-            say(b" ");
-            say_number(len as u64);
-            say(b" ");
-            say_number(next as u64);
+            saying::number(start as u64);
+            saying::next(len as u64);
+            saying::next(next as u64);
         }
     }
 }
 
+// Prints what a line is, whether its bytes are permitted, how many fields it has, and the first of them.
 fn line(name: &[u8], l: &[u8]) {
     say(b"line ");
     say(name);
@@ -83,7 +87,7 @@ fn line(name: &[u8], l: &[u8]) {
     }
     match text_fields::count_fields(l) {
         CountAnswer::Fields(n) => {
-            say_number(n as u64);
+            saying::number(n as u64);
             say(b" fields, first ");
         }
         CountAnswer::Bad => {
@@ -94,26 +98,24 @@ fn line(name: &[u8], l: &[u8]) {
     end_line();
 }
 
-// Says where the first line of a part of a file ends, and answers where the next begins.
-fn say_end(part: &[u8]) -> usize
-    ensures { λ r. ⌜ r ≡ lineEnd (now (part .entry)) .next ⌝ }
-{
-    let e = text::line_end(part);
-    say(b" ");
-    say_number(e.content as u64);
+// Prints where the content of a line ends, and where the next line begins.
+fn say_end(e: LineEnd) {
+    saying::next(e.content as u64);
     say(b"/");
-    say_number(e.next as u64);
-    e.next
+    saying::number(e.next as u64);
 }
 
-// The end of each line of a file.
+// Prints the end of each line of a file.
 fn say_ends(f: &[u8]) {
     let mut at = 0;
     while at < f.len() {
-        at = at + say_end(&f[at..]);
+        let e = text::line_end(&f[at..]);
+        say_end(e);
+        at += e.next;
     }
 }
 
+// Prints a file by its name, and the end of each of its lines.
 fn file(name: &[u8], f: &[u8]) {
     say(b"file ");
     say(name);
@@ -122,6 +124,7 @@ fn file(name: &[u8], f: &[u8]) {
     end_line();
 }
 
+// Control bytes and the space.
 pub(crate) fn classes() {
     class(0);
     class(9);
@@ -131,6 +134,7 @@ pub(crate) fn classes() {
     class(32);
 }
 
+// The quote, and bytes from the last one that is permitted on.
 pub(crate) fn more_classes() {
     class(34);
     class(126);
@@ -139,6 +143,7 @@ pub(crate) fn more_classes() {
     class(255);
 }
 
+// Blank lines, a comment, and a line that is neither.
 pub(crate) fn free_lines() {
     line(b"nothing", b"");
     line(b"spaces", b"   ");
@@ -146,6 +151,7 @@ pub(crate) fn free_lines() {
     line(b"space #", b" #");
 }
 
+// Quotes where they may stand, and where not.
 pub(crate) fn quoted_lines() {
     line(b"\"a\"b", b"\"a\"b");
     line(b"a\"b", b"a\"b");
@@ -154,12 +160,14 @@ pub(crate) fn quoted_lines() {
     line(b"\"open", b"\"open");
 }
 
+// Lines with a byte that no line may hold.
 pub(crate) fn forbidden_lines() {
     line(b"byte 127", b"a \x7f");
     line(b"byte 255", b"a \xff b");
     line(b"tab", b"a\tb");
 }
 
+// Line ends: none, alone, lost, inside a quote, behind byte 13.
 pub(crate) fn files() {
     file(b"nothing", b"");
     file(b"no byte 10", b"a b");

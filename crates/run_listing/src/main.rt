@@ -1,6 +1,8 @@
 // The canonical printer: prints the canonical text of the file on standard input, or number, line and count of its refusal.
 use law::Reply;
-use line_rows::WIDTH;
+use rows::WIDTH;
+use run::lent;
+use run::saying;
 
 // The largest input.
 const LARGEST: usize = 4_096;
@@ -11,32 +13,26 @@ const ROWS: usize = LARGEST / 2;
 // No field grows to more than four times its bytes with the byte behind it; the last line may lack its byte 10.
 const TEXT: usize = 4 * (LARGEST + 1);
 
-// Prints a reply.
+// Prints a reply, on a line.
 fn say_reply(r: Reply) {
-    io::print_decimal(1, r.number);
-    io::write_all(1, b" ");
-    io::print_decimal(1, r.line);
-    io::write_all(1, b" ");
-    io::print_decimal(1, r.count);
-    io::write_all(1, b"\n");
+    saying::reply(r);
+    saying::end_line();
 }
 
-// Prints the front of a text, as long as the reply says.
-fn say_text(r: Reply, text: &[u8]) {
-    if (text.len() as u64) < r.count {
+// Prints what was written: the front of the text, as long as the reply says, or the refusal.
+fn say_written(r: Reply, text: &[u8]) {
+    if r.number != 0 {
         return say_reply(r);
     }
-    io::write_all(1, &text[0..r.count as usize]);
+    let n = lent::handed_out(r, text.len());
+    saying::say(&text[0..n]);
 }
 
 // Prints rows as canonical text, over the file that they were read from.
 fn list_rows(rows: &[i64], file: &[u8]) {
     let mut text = [0u8; TEXT];
     let r = write::whole::write(rows, file, &mut text);
-    if r.number != 0 {
-        return say_reply(r);
-    }
-    say_text(r, &text);
+    say_written(r, &text);
 }
 
 // Prints what was read: the rows' text, or the refusal.
@@ -44,10 +40,8 @@ fn list_read(r: Reply, rows: &[i64], file: &[u8]) {
     if r.number != 0 {
         return say_reply(r);
     }
-    if ((rows.len() / WIDTH) as u64) < r.count {
-        return say_reply(r);
-    }
-    list_rows(&rows[0..r.count as usize * WIDTH], file);
+    let n = lent::handed_out(r, rows.len() / WIDTH) * WIDTH;
+    list_rows(&rows[0..n], file);
 }
 
 // Prints a file.

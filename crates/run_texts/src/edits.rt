@@ -1,9 +1,7 @@
 // Edits of the rows that a file gave.
-use crate::decimal;
-use line_rows::WIDTH;
+use rows::WIDTH;
+use run::columns;
 ghost use Prim.Native.Nat.{_<_};
-ghost use mathlib.Core.Path.{_≡_};
-ghost use lib.ListN.{length};
 
 // How many bytes an edit has.
 pub(crate) const SIZE: usize = 32;
@@ -41,13 +39,11 @@ fn place(row: usize, column: usize) -> usize
 }
 
 // Makes an edit.
-fn make_one(rows: &mut [i64], edit: &[u8])
-    requires { ⌜ length (now edit) ≡ 32 ⌝ }
-{
-    let column = decimal::count(edit, 8, 11);
-    let first = place(decimal::count(edit, 0, 4), column);
-    let last = place(decimal::count(edit, 4, 8), column);
-    put_each(rows, first, last, decimal::signed(edit, 11, 31));
+fn make_one(rows: &mut [i64], edit: &[u8]) {
+    let column = columns::count(edit, 8, 11);
+    let first = place(columns::count(edit, 0, 4), column);
+    let last = place(columns::count(edit, 4, 8), column);
+    put_each(rows, first, last, columns::signed(edit, 11, 31));
 }
 
 // Makes edits, one after the other.

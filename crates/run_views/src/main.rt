@@ -23,174 +23,95 @@
 // A column of a number holds decimal digits, with spaces before them, or `m` and spaces for the largest number that there is. Each
 // call goes on from the place where the one before it came. A reply of 0 is followed by a line for each field: start, length, bytes.
 // What is no case ends the run.
-mod columns;
-mod lent;
-mod saying;
+mod fields;
+mod steps;
 
-use columns::CALL;
-use columns::HEADER;
-use saying::say;
+use run::cases;
+use run::cases::HEADER;
+use run::cases::Totals;
+use run::cases::Went;
+use run::columns;
+use run::lent;
 use viewer::Step;
-ghost use Prim.Native.Nat.{_≤_};
 
-// How a case went; `Over` where standard input holds no further case.
-enum Went {
-    Well,
-    Badly,
-    Over,
-}
+// How many bytes a call's line has, with the byte 10 that ends it.
+const CALL: usize = 28;
 
-// How many cases were run, and how many of them went badly.
-struct Totals {
-    cases: u64,
-    differ: u64,
-}
-
-// What came of a call, and whether it is as expected and touches its fields' numbers alone.
-struct Called {
-    came: Step,
+// The place and the line where the reader stands, and whether each call up to there went as expected.
+struct Stand {
+    at: usize,
+    line: u64,
     well: bool,
 }
 
-// One call at a place, on some lent numbers.
-fn call(file: &[u8], at: usize, line: u64, expected: Step, out: &mut [i64]) -> Called {
-    let came = viewer::step_at(file, at, line, out);
-    let r = came.reply;
-    let n = lent::taken(r, out.len());
-    let kept = lent::untouched(&out[n..]);
-    saying::steps(came, expected);
-    saying::kept(kept);
-    saying::fields(file, &out[0..n]);
-    Called {
-        came: came,
-        well: kept & saying::agree(came, expected),
+// What is expected of a call.
+fn expected(want: &[u8; CALL]) -> Step {
+    Step {
+        reply: columns::reply(want, 0, 3, 9, 15),
+        at: columns::number(want, 15, 21) as usize,
+        line: columns::number(want, 21, 27),
     }
 }
 
-// The same on as many numbers as the header says, or all there are.
-fn call_lent(file: &[u8], at: usize, line: u64, expected: Step, many: usize) -> Called {
-    let mut room = lent::room();
-    let all: &mut [i64] = &mut room;
-    let n = lent::least(many, all.len());
-    call(file, at, line, expected, &mut all[0..n])
-}
-
-// Says why no further case is run.
-fn stop(why: &[u8]) -> Went {
-    say(why);
-    saying::end_line();
-    Went::Over
-}
-
-// How a case goes on after a call.
-fn with(w: Went, well: bool) -> Went {
-    match w {
-        Went::Well => { if well { Went::Well } else { Went::Badly } }
-        Went::Badly => Went::Badly,
-        Went::Over => Went::Over,
+// Makes a call on some numbers; it goes well if all is as expected and nothing but its fields' numbers was touched.
+fn call(file: &[u8], from: Stand, expected: Step, numbers: &mut [i64]) -> Stand {
+    let came = viewer::step_at(file, from.at, from.line, numbers);
+    let reply = came.reply;
+    let n = lent::handed_out(reply, numbers.len() / 2) * 2;
+    let kept = lent::numbers_untouched(&numbers[n..]);
+    let well = steps::say(came, expected, kept);
+    fields::say(file, &numbers[0..n]);
+    Stand {
+        at: came.at,
+        line: came.line,
+        well: from.well & well,
     }
+}
+
+// Makes a call on as many numbers as the header says, or all there are.
+fn call_lent(head: &[u8; HEADER], file: &[u8], from: Stand, want: &[u8; CALL]) -> Stand {
+    cases::say_name(head, 32);
+    let mut numbers = lent::numbers();
+    let n = lent::least(columns::count(head, 32, 38), lent::NUMBERS);
+    call(file, from, expected(want), &mut numbers[0..n])
 }
 
 // Makes the calls of a case, each from the place where the one before it came.
-fn run(head: &[u8; HEADER], file: &[u8]) -> Went {
-    let calls = columns::calls(head);
-    let many = columns::lent(head);
-    let mut at = columns::at(head);
-    let mut line = columns::line(head);
-    let mut went = Went::Well;
+fn run_case(head: &[u8; HEADER], file: &[u8]) -> Went {
+    let calls = columns::number(head, 56, 63);
+    let mut stand = Stand {
+        at: columns::number(head, 44, 50) as usize,
+        line: columns::number(head, 50, 56),
+        well: true,
+    };
     let mut i = 0;
     while i < calls {
         let mut want = [0u8; CALL];
-        if io::read_full(0, &mut want) != CALL {
-            return stop(b"a call torn");
+        if !cases::read_whole(&mut want) {
+            return Went::Over;
         }
-        columns::say_name(head);
-        let c = call_lent(file, at, line, columns::expected(&want), many);
-        let came = c.came;
-        at = came.at;
-        line = came.line;
-        went = with(went, c.well);
+        stand = call_lent(head, file, stand, &want);
         i += 1;
     }
-    went
+    Went::of(stand.well)
 }
 
-// Runs the case of a header: its file is read, with byte 10 behind it.
-fn take_file(head: &[u8; HEADER], room: &mut [u8]) -> Went {
-    let n = columns::bytes(head);
-    if n >= room.len() {
-        return stop(b"a file too large");
-    }
-    let got = io::read_full(0, &mut room[0..n + 1]);
-    if got != n + 1 {
-        return stop(b"a file torn");
-    }
-    if room[n] != 10 {
-        return stop(b"no byte 10 behind a file");
-    }
-    run(head, &room[0..n])
-}
-
-// Runs the next case of standard input.
-fn take_case(room: &mut [u8]) -> Went {
-    let mut head = [0u8; HEADER];
-    let got = io::read_full(0, &mut head);
-    if got == 0 {
+// Reads the file of a header and runs the case.
+fn take_case(head: &[u8; HEADER]) -> Went {
+    let n = columns::count(head, 38, 44);
+    let mut room = cases::room();
+    if !cases::read_part(&mut room, n + 1) {
         return Went::Over;
     }
-    if got != HEADER {
-        return stop(b"a header torn");
-    }
-    if head[HEADER - 1] != 10 {
-        return stop(b"no byte 10 behind a header");
-    }
-    take_file(&head, room)
-}
-
-// Whether no case was left.
-fn is_over(w: Went) -> bool {
-    match w {
-        Went::Well => false,
-        Went::Badly => false,
-        Went::Over => true,
-    }
-}
-
-// How many cases went badly in one: 1 or 0.
-fn badly(w: Went) -> u64
-    ensures { λ r. ⌜ r ≤ 1 ⌝ }
-{
-    match w {
-        Went::Well => 0,
-        Went::Badly => 1,
-        Went::Over => 0,
-    }
-}
-
-// Runs the cases of standard input. Nothing says that it ends, so the turns are counted to a number that no run reaches.
-fn take_cases(room: &mut [u8]) -> Totals {
-    let mut cases = 0;
-    let mut differ = 0;
-    while cases < u64::MAX {
-        let went = take_case(room);
-        if is_over(went) {
-            break;
-        }
-        differ += badly(went);
-        cases += 1;
-    }
-    Totals {
-        cases: cases,
-        differ: differ,
-    }
+    run_case(head, cases::part(&room, n))
 }
 
 fn main() {
-    let mut room = io::large_buffer();
-    let t = take_cases(&mut room);
-    saying::number(t.cases);
-    say(b" cases, ");
-    saying::number(t.differ);
-    say(b" differ");
-    saying::end_line();
+    let mut head = [0u8; HEADER];
+    let mut totals = Totals::first(&mut head);
+    while totals.left > 0 {
+        let went = take_case(&head);
+        totals = totals.next(went, &mut head);
+    }
+    totals.say();
 }

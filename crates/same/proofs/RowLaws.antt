@@ -12,18 +12,19 @@ use borrow.Author.Tests.{not-true, not-false}
 use lib.IntN.{ℤ, pos, natAbs}
 use lib.ListN.{length, drop, drop-of-length-le}
 use lib.Seq.{drop-cons, drop-drop, getD-drop}
+use Rattle.basics.proofs.Integers.{back}
+use Rattle.rows.proofs.ColumnLaws.{column}
+use Rattle.rows.specs.Columns.{columnAt, kindColumn}
+use Rattle.basics.specs.Integers.{eqZ}
 use Rattle.law.specs.Fits.{meaning}
 use Rattle.law.specs.Layouts.{typesOf}
 use Rattle.form_layouts.specs.Letters.{widthOf, widths, typeAt}
 use Rattle.law.specs.declared.Rules.the-variants.{Idf3}
 use Rattle.law.specs.declared.FieldType.{FieldType}
 use Rattle.law.specs.declared.FieldType.the-variants.{Text as T, Reference as Ref, Date as D, Integer as I, Number as N, Word as W}
-use Rattle.form_layouts.proofs.KindLaws.{seven, nine}
+use Rattle.form_layouts.proofs.KindLaws.{seven, nine, type-here, widths-here}
 use Rattle.law.specs.Rows.{width}
-use Rattle.order_loops.specs.Loops.{eqZ}
-use Rattle.walk.specs.Judging.{columnAt}
 use Rattle.rows_texts.specs.Texts.{textAt, sameTexts}
-use Rattle.walk.proofs.LineLaws.{column}
 use Rattle.same.specs.declared.Ignored.{Ignored}
 use Rattle.same.specs.Ignoring.{ignoredAt}
 use Rattle.same.specs.SameRows.{holdsBytes, countsAs, sameField, agreesAt, sameFrom, sameFields, sameRow}
@@ -128,21 +129,14 @@ module _ (g : Ignored) (k : ℕ) (f : List ℕ) (x : List ℤ) (h : List ℕ) (y
     pub agreeing-place : i < 7
     agreeing-place = omega (arith, r .count, seven Idf3 k)
 
-    here : drop i (typesOf Idf3 k) ≡ typeAt (typesOf Idf3 k) i ∷ drop (i + 1) (typesOf Idf3 k)
-    here = rw (add-one i) (drop-cons (typesOf Idf3 k) i T (omega (arith, r .count)))
-
-    wide-here : widths (drop i (typesOf Idf3 k)) ≡ widthOf (typeAt (typesOf Idf3 k) i) + widths (drop (i + 1) (typesOf Idf3 k))
-    unfolding widths
-    wide-here = rw here
-
     module _ (t : FieldType) (e : t ≡ typeAt (typesOf Idf3 k) i) where
       pub agreeing-room : c + widthOf t ≤ width
-      agreeing-room = rw e (omega (arith, r .columns, wide-here))
+      agreeing-room = rw e (omega (arith, r .columns, widths-here (typesOf Idf3 k) i agreeing-type))
 
       module _ (p : Bool) (d : p ≡ agreesAt g k i t f (drop c x) h (drop c y)) where
         step : sameFields g k f x h y ≡ (p && sameFrom g k (i + 1) (drop (i + 1) (typesOf Idf3 k)) f (drop (c + widthOf t) x) h (drop (c + widthOf t) y))
         unfolding sameFrom
-        step = sym (r .left) ∙ rw (here, sym e, sym d, drop-drop (widthOf t) c x, drop-drop (widthOf t) c y)
+        step = sym (r .left) ∙ rw (type-here (typesOf Idf3 k) i agreeing-type, sym e, sym d, drop-drop (widthOf t) c x, drop-drop (widthOf t) c y)
 
         pub agreeing-not : not p ≡ true → false ≡ sameFields g k f x h y
         agreeing-not j = let z = not-true p j in sym (step ∙ rw z)
@@ -157,19 +151,19 @@ module _ (g : Ignored) (k : ℕ) (f : List ℕ) (x : List ℤ) (h : List ℕ) (y
               let v : widthOf t ≡ widthOf (typeAt (typesOf Idf3 k) i) = ap widthOf e in
               record {
                 count = r .count;
-                columns = omega (arith, r .columns, wide-here, w, v);
+                columns = omega (arith, r .columns, widths-here (typesOf Idf3 k) i agreeing-type, w, v);
                 left = rw w (sym (step ∙ rw z));
               }
 
 -- two rows
-module _ (g : Ignored) (f : List ℕ) (x : List ℤ) (h : List ℕ) (y : List ℤ) (p : Bool) (e : p ≡ eqZ (column x 0) (column y 0)) (f0 : SFits w64 (columnAt x 0)) (g0 : SFits w64 (columnAt y 0)) where
-  kinds : p ≡ eqZ (columnAt x 0) (columnAt y 0)
-  kinds = e ∙ rw (toZ-ofZ w64 (columnAt x 0) f0, toZ-ofZ w64 (columnAt y 0) g0)
+module _ (g : Ignored) (f : List ℕ) (x : List ℤ) (h : List ℕ) (y : List ℤ) (p : Bool) (e : p ≡ eqZ (back (kindColumn x)) (back (kindColumn y))) (f0 : SFits w64 (kindColumn x)) (g0 : SFits w64 (kindColumn y)) where
+  kinds : p ≡ eqZ (kindColumn x) (kindColumn y)
+  kinds = e ∙ rw (toZ-ofZ w64 (kindColumn x) f0, toZ-ofZ w64 (kindColumn y) g0)
 
   pub rows-differ : not p ≡ true → false ≡ sameRow g f x h y
   unfolding sameRow
   rows-differ j = let z = not-true p j in rw (sym kinds ∙ z)
 
-  pub rows-by-fields : (n : ℕ) (q : Bool) → not p ≡ false → n ≡ natAbs (column x 0) → q ≡ sameFields g n f x h y → q ≡ sameRow g f x h y
+  pub rows-by-fields : (n : ℕ) (q : Bool) → not p ≡ false → n ≡ natAbs (back (kindColumn x)) → q ≡ sameFields g n f x h y → q ≡ sameRow g f x h y
   unfolding sameRow
-  rows-by-fields n q j i l = let z = not-false p j in rw (sym kinds ∙ z) (l ∙ rw (i, toZ-ofZ w64 (columnAt x 0) f0))
+  rows-by-fields n q j i l = let z = not-false p j in rw (sym kinds ∙ z) (l ∙ rw (i, toZ-ofZ w64 (kindColumn x) f0))

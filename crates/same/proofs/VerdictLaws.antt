@@ -22,15 +22,6 @@ found-same b h = rw h
 pub found-other : (b : Bool) → b ≡ false → verdict 0 0 0 0 ≡ foundSame b
 found-other b h = rw h
 
--- an accepted file is not too large
-pub accepted-small : (file : List ℕ) (r : Reply) → r ≡ checkReply file → r .number ≡ 0 → length file ≤ limit
-unfolding checkReply
-accepted-small file r e h = go (ltb limit (length file)) refl
-  where
-    go : (x : Bool) → ltb limit (length file) ≡ x → length file ≤ limit
-    go true i = let z : _≡_ {A = ℕ} 1 0 = rw (e, i) at h in absurd (omega arith)
-    go false i = ltb-false limit (length file) i
-
 module _ (f h : List ℕ) (a : Reply) (e : a ≡ checkReply f) (v : Verdict) where
   pub first-refused : (a .number ≡ 0 → ⊥) → v ≡ refusedAs a 1 → v ≡ sameReply f h
   unfolding sameReply

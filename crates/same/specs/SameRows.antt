@@ -4,6 +4,8 @@ use mathlib.Core.List.{List, [], _∷_}
 use mathlib.Core.Bool.{Bool, true, false, cond, _&&_, _||_}
 use lib.IntN.{ℤ, natAbs}
 use lib.ListN.{drop}
+use Rattle.rows.specs.Columns.{columnAt, kindColumn}
+use Rattle.basics.specs.Integers.{eqZ}
 use Rattle.law.specs.Words.{sameBytes}
 use Rattle.law.specs.Fits.{meaning}
 use Rattle.law.specs.Layouts.{typesOf}
@@ -11,8 +13,6 @@ use Rattle.form_layouts.specs.Letters.{widthOf}
 use Rattle.law.specs.declared.Rules.the-variants.{Idf3}
 use Rattle.law.specs.declared.FieldType.{FieldType}
 use Rattle.law.specs.declared.FieldType.the-variants.{Text as T, Reference as Ref, Date as D, Integer as I, Number as N, Word as W}
-use Rattle.order_loops.specs.Loops.{eqZ}
-use Rattle.walk.specs.Judging.{columnAt}
 use Rattle.rows_texts.specs.Texts.{textAt}
 use Rattle.same.specs.Ignoring.{ignoredAt}
 use Rattle.same.specs.declared.Ignored.{Ignored}
@@ -57,4 +57,4 @@ sameFields g k f x h y = sameFrom g k 0 (typesOf Idf3 k) f (drop 1 x) h (drop 1 
 
 -- the same kind, and the same fields but those that are left out
 unfoldable pub sameRow : Ignored → List ℕ → List ℤ → List ℕ → List ℤ → Bool
-sameRow g f x h y = eqZ (columnAt x 0) (columnAt y 0) && sameFields g (natAbs (columnAt x 0)) f x h y
+sameRow g f x h y = eqZ (kindColumn x) (kindColumn y) && sameFields g (natAbs (kindColumn x)) f x h y

@@ -1,7 +1,7 @@
 // Two files walked side by side, record by record.
 use crate::Ignored;
 use crate::records;
-use line_rows::WIDTH;
+use rows::WIDTH;
 use walk::Found;
 use walk::Turn;
 use walk::Walk;

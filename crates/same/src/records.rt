@@ -2,7 +2,7 @@
 use crate::Ignored;
 use law::FieldType;
 use law::Rules;
-use line_rows::WIDTH;
+use rows::WIDTH;
 ghost use mathlib.Core.Path.{_≡_};
 ghost use Prim.Native.Nat.{_+_, _≤_, _<_};
 ghost use lib.ListN.{drop};
@@ -40,7 +40,7 @@ fn same_field(
     if holds_bytes(t) {
         return rows_texts::same_texts(first, x[at], x[at + 1], second, y[at], y[at + 1]);
     }
-    order_loops::same(x[at], y[at])
+    basics::same_integers(x[at], y[at])
 }
 
 // Whether a comparison leaves out field i of the records of a kind.
@@ -92,7 +92,7 @@ fn same_fields(
     let mut at = 1;
     let mut i = 0;
     while i < n {
-        let t = form_layouts::type_in(Rules::Idf3, kind, layout, i);
+        let t = form_layouts::field_type(Rules::Idf3, kind, layout, i);
         if !agrees_at(g, kind, i, t, first, x, second, y, at) {
             return false;
         }
@@ -106,8 +106,8 @@ fn same_fields(
 pub fn same_row(g: Ignored, first: &[u8], x: [i64; WIDTH], second: &[u8], y: [i64; WIDTH]) -> bool
     ensures { λ r. ⌜ r ≡ sameRow g (now (first .entry)) x (now (second .entry)) y ⌝ }
 {
-    if !order_loops::same(x[0], y[0]) {
+    if !basics::same_integers(x[rows::KIND], y[rows::KIND]) {
         return false;
     }
-    same_fields(g, number::magnitude(x[0]), first, x, second, y)
+    same_fields(g, number::magnitude(x[rows::KIND]), first, x, second, y)
 }

@@ -3,18 +3,21 @@ use Prim.Native.Nat.{ℕ, suc, _+_}
 use mathlib.Core.Path.{_≡_, refl, sym, ap, _∙_, subst}
 use mathlib.Core.Logic.{_≢_}
 use mathlib.Core.List.{List, [], _∷_, _++_}
-use mathlib.Core.Bool.{Bool, true, false, cond, not, _&&_, _||_, true≢false, false≢true}
+use mathlib.Core.Bool.{Bool, true, false, cond, not, _&&_, _||_, true≢false, false≢true, or-true}
 use native.Mathlib.Omega.{arith}
 use borrow.Author.Tests.{eqb-true, eq-eqb}
 use lib.Dec.{eqb}
 use lib.ListN.{length}
+use Rattle.shown_lists.proofs.Names.{name-true, name-same}
+use Rattle.law.specs.Kinds.{electricalKind, mechanicalKind}
+use Rattle.basics.proofs.Bytes.{bytes-true, bytes-self, bytes-same, bytes-differ, bytes-false}
+use Rattle.basics.proofs.Bools.{both, not-both}
 use Rattle.law.specs.Values.{Rec}
 use Rattle.law.specs.Words.{boardWord, noReference, sameBytes}
 use Rattle.law.specs.declared.FileType.{FileType}
 use Rattle.law.specs.declared.FileType.the-variants.{Board, Panel, Library}
 use Rattle.law.specs.Records.{isLibrary, Named, nameIn}
 use Rattle.order.specs.Automaton.{sameName}
-use Rattle.shown_lists.proofs.Basics.{both, not-both, bytes-true, bytes-self}
 use Rattle.law.specs.Files.{titled}
 use Rattle.law.specs.declared.Verdict.{Verdict}
 use Rattle.law.specs.Answers.{verdict}
@@ -37,29 +40,6 @@ not-library t n = go (isLibrary t) refl
     go true e = absurd (n (is-library t e))
     go false e = refl
 
-bytes-not : (a b : List ℕ) → sameBytes a b ≡ false → a ≢ b
-bytes-not a b h e = not-both (bytes-self b) (ap (λ (s : List ℕ). sameBytes s b) (sym e) ∙ h)
-
-bytes-differ : (a b : List ℕ) → a ≢ b → sameBytes a b ≡ false
-bytes-differ a b n = go (sameBytes a b) refl
-  where
-    go : (x : Bool) → sameBytes a b ≡ x → x ≡ false
-    go true e = absurd (n (bytes-true a b e))
-    go false e = refl
-
-bytes-same : (a b : List ℕ) → a ≡ b → sameBytes a b ≡ true
-bytes-same a b e = ap (λ (s : List ℕ). sameBytes s b) e ∙ bytes-self b
-
-name-true : (a b : Named) → sameName a b ≡ true → a ≡ b
-name-true a b h =
-    let w = both (sameBytes (a .geometry) (b .geometry)) (sameBytes (a .number) (b .number)) h in
-    let g = bytes-true (a .geometry) (b .geometry) (w .0) in
-    let n = bytes-true (a .number) (b .number) (w .1) in
-    λ i. record { geometry = g i; number = n i }
-
-name-same : (a b : Named) → a ≡ b → sameName a b ≡ true
-name-same a b e = ap (λ (c : Named). sameName c b) e ∙ rw (bytes-self (b .geometry), bytes-self (b .number))
-
 -- an entry is among the records exactly if the test says so
 entry-sound : (k : ℕ) (a : Named) (qs : List Rec) → hasEntryOf k a qs ≡ true → Entry k a qs
 entry-sound k a [] h = absurd (false≢true h)
@@ -68,10 +48,6 @@ entry-sound k a (q ∷ qs) h = go (eqb (q .kind) k && sameName (nameIn q) a) ref
     go : (b : Bool) → (eqb (q .kind) k && sameName (nameIn q) a) ≡ b → (b || hasEntryOf k a qs) ≡ true → (hasEntryOf k a qs ≡ true → Entry k a qs) → Entry k a (q ∷ qs)
     go true e i rest = let w = both (eqb (q .kind) k) (sameName (nameIn q) a) e in this (eqb-true (q .kind) k (w .0)) (name-true (nameIn q) a (w .1))
     go false e i rest = later (rest i)
-
-or-true : (a : Bool) → (a || true) ≡ true
-or-true true = refl
-or-true false = refl
 
 entry-complete : (k : ℕ) (a : Named) (qs : List Rec) → Entry k a qs → hasEntryOf k a qs ≡ true
 entry-complete k a (q ∷ qs) (this e n) = rw (eq-eqb (q .kind) k e, name-same (nameIn q) a n)
@@ -85,18 +61,18 @@ two-words {s} a b = not-both (bytes-same boardWord noReference (sym a ∙ b)) re
 module _ (qs : List Rec) (p : Placement) where
   served-complete : Served qs p → lacksIn qs p ≡ false
   served-complete (board e) = rw (bytes-same (p .reference) boardWord e)
-  served-complete (mechanical e n) = rw (bytes-differ (p .reference) boardWord (λ f. two-words f e), bytes-same (p .reference) noReference e, entry-complete 151 (p .name) qs n)
-  served-complete (electrical d e n) = rw (bytes-differ (p .reference) boardWord d, bytes-differ (p .reference) noReference e, entry-complete 141 (p .name) qs n)
+  served-complete (mechanical e n) = rw (bytes-differ (p .reference) boardWord (λ f. two-words f e), bytes-same (p .reference) noReference e, entry-complete mechanicalKind (p .name) qs n)
+  served-complete (electrical d e n) = rw (bytes-differ (p .reference) boardWord d, bytes-differ (p .reference) noReference e, entry-complete electricalKind (p .name) qs n)
 
   served-sound : lacksIn qs p ≡ false → Served qs p
-  served-sound h = go (sameBytes (p .reference) boardWord) (sameBytes (p .reference) noReference) (hasEntryOf 151 (p .name) qs) (hasEntryOf 141 (p .name) qs) refl refl refl refl h
+  served-sound h = go (sameBytes (p .reference) boardWord) (sameBytes (p .reference) noReference) (hasEntryOf mechanicalKind (p .name) qs) (hasEntryOf electricalKind (p .name) qs) refl refl refl refl h
     where
-      go : (x y m e : Bool) → sameBytes (p .reference) boardWord ≡ x → sameBytes (p .reference) noReference ≡ y → hasEntryOf 151 (p .name) qs ≡ m → hasEntryOf 141 (p .name) qs ≡ e
+      go : (x y m e : Bool) → sameBytes (p .reference) boardWord ≡ x → sameBytes (p .reference) noReference ≡ y → hasEntryOf mechanicalKind (p .name) qs ≡ m → hasEntryOf electricalKind (p .name) qs ≡ e
           → cond x false (cond y (not m) (not e)) ≡ false → Served qs p
       go true y m e a b c d i = board (bytes-true (p .reference) boardWord a)
-      go false true true e a b c d i = mechanical (bytes-true (p .reference) noReference b) (entry-sound 151 (p .name) qs c)
+      go false true true e a b c d i = mechanical (bytes-true (p .reference) noReference b) (entry-sound mechanicalKind (p .name) qs c)
       go false true false e a b c d i = absurd (true≢false i)
-      go false false m true a b c d i = electrical (bytes-not (p .reference) boardWord a) (bytes-not (p .reference) noReference b) (entry-sound 141 (p .name) qs d)
+      go false false m true a b c d i = electrical (bytes-false (p .reference) boardWord a) (bytes-false (p .reference) noReference b) (entry-sound electricalKind (p .name) qs d)
       go false false m false a b c d i = absurd (true≢false i)
 
   lacks-sound : lacksIn qs p ≡ true → Served qs p → ⊥

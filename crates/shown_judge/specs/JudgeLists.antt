@@ -7,6 +7,7 @@ use Rattle.law.specs.Values.{Rec}
 use Rattle.law.specs.Words.{boardWord, noReference, sameBytes}
 use Rattle.law.specs.Records.{isLibrary, Named, nameIn}
 use Rattle.order.specs.Automaton.{sameName}
+use Rattle.law.specs.Kinds.{electricalKind, mechanicalKind}
 use Rattle.law.specs.Files.{titled}
 use Rattle.law.specs.declared.Verdict.{Verdict}
 use Rattle.law.specs.Answers.{verdict}
@@ -21,7 +22,7 @@ hasEntryOf k a (q ∷ qs) = eqb (q .kind) k && sameName (nameIn q) a || hasEntry
 abbrev pub lacksIn : List Rec → Placement → Bool
 lacksIn qs p =
     cond (sameBytes (p .reference) boardWord) false
-    (cond (sameBytes (p .reference) noReference) (not (hasEntryOf 151 (p .name) qs)) (not (hasEntryOf 141 (p .name) qs)))
+    (cond (sameBytes (p .reference) noReference) (not (hasEntryOf mechanicalKind (p .name) qs)) (not (hasEntryOf electricalKind (p .name) qs)))
 
 -- placements behind n others: 16 at the first that lacks its entry, or the number of them all
 abbrev pub placedBehind : List Rec → ℕ → List Placement → Verdict

@@ -2,10 +2,12 @@
 use Prim.Native.Nat.{ℕ, _≤_}
 use mathlib.Core.Path.{_≡_, refl, sym, ap, _∙_, subst}
 use mathlib.Core.Option.{Option, none, some}
-use mathlib.Core.Bool.{Bool, true, false, cond, _&&_, false≢true}
+use mathlib.Core.Bool.{Bool, true, false, cond, _&&_, false≢true, and-false}
 use native.Mathlib.Omega.{arith}
 use lib.Dec.{eqb}
 use borrow.Author.Tests.{eqb-true}
+use Rattle.rows.specs.declared.Point.{Point}
+use Rattle.basics.proofs.Bools.{eqb-self, none-some}
 use Rattle.law.specs.Values.{Rec}
 use Rattle.law.specs.Sections.{Shape, header, outline, component, keepout, listing, placements}
 use Rattle.law.specs.Kinds.{kindAt, sectionOf, lineOf, Role, opening, closing, title, name, lead, point, prop, entry, part, position, unknown, dataRole, roleIn, roleOf}
@@ -18,7 +20,6 @@ use Rattle.order_loops.specs.Loops.{loopAfter, complete}
 use Rattle.order.specs.Stages.{fileOf}
 use Rattle.order.specs.Places.{pointLine, hasProps, lineAt}
 use Rattle.order.specs.Automaton.{isRole, if-fit, afterTitle, afterPoint, onlyIf, atPhase, advance, mayStand, movedIn, moved}
-use Rattle.order_loops.specs.declared.Point.{Point}
 use Rattle.order.specs.declared.Stage.{Stage}
 use Rattle.order_loops.specs.declared.LoopState.{LoopState}
 use Rattle.order_loops.specs.declared.LoopState.the-variants.{NoPoint as noPoint}
@@ -30,7 +31,6 @@ use Rattle.order.specs.declared.Reason.the-variants.{Misplaced as misplaced, Un
 use Rattle.order.specs.declared.Outcome.{Outcome}
 use Rattle.order.specs.declared.Outcome.the-variants.{Next as next, Refused as refused}
 use Rattle.order.proofs.Steps.{advance-is}
-use Rattle.shown_lists.proofs.Basics.{eqb-self}
 use Rattle.shown_lists.proofs.Roles.{isSection, isRole-true, hasPoints, point-line, lead-first, role-is, prop-component}
 use Rattle.shown_lists.proofs.Tables.{section-at, role-at, kind-of}
 use Rattle.shown_lists.proofs.Sane.{SaneIn, sane-title, sane-name, sane-full, sane-lead, sane-points, sane-props, sane-list, sane-part, sane-position, Sane, sane-inside}
@@ -176,13 +176,6 @@ stands-only false st = stands-bad
 some-same : {a b : ℕ} → some a ≡ some b → a ≡ b
 some-same {a} {b} e = cc
 
-never-some : {n : ℕ} → none ≡ some n → ⊥
-never-some {n} e = let z : _≡_ {A = ℕ} 0 1 = cc in omega arith
-
-off-and : (b : Bool) → (b && false) ≡ false
-off-and true = refl
-off-and false = refl
-
 module _ (v : Rules) (g : Stage) (s : ℕ) (r : Rec) (known : isSection v s ≡ true) where
   stands-by : (p : Phase) (n m : ℕ) (a : Role) → m ≤ 9 → roleIn (shapeOf v s) m ≡ a → Stands (atPhase g s p a (wellFormed (under v (fileOf g)) r) r)
       → some m ≡ some n → r .kind ≡ kindAt v s n → Stands (advance v (inside g s p) r)
@@ -210,21 +203,21 @@ module _ (v : Rules) (g : Stage) (s : ℕ) (r : Rec) (known : isSection v s ≡ 
   prop-only : {n : ℕ} (b : Bool) → (b ≡ true → shapeOf v s ≡ component) → cond b (some 3) none ≡ some n → r .kind ≡ kindAt v s n
       → Stands (advance v (inside g s inProps) r)
   prop-only {n} true f i k = stands-by inProps n 3 prop (omega arith) (ap (λ (x : Shape). roleIn x 3) (f refl)) (to-next (inside g s inProps)) i k
-  prop-only false f i k = absurd (never-some i)
+  prop-only false f i k = absurd (none-some i)
 
   has-props : (b : Bool) (f : Shape) → (b && hasProps f) ≡ true → f ≡ component
   has-props b component h = refl
-  has-props b header h = absurd (false≢true (sym (off-and b) ∙ h))
-  has-props b outline h = absurd (false≢true (sym (off-and b) ∙ h))
-  has-props b keepout h = absurd (false≢true (sym (off-and b) ∙ h))
-  has-props b listing h = absurd (false≢true (sym (off-and b) ∙ h))
-  has-props b placements h = absurd (false≢true (sym (off-and b) ∙ h))
+  has-props b header h = absurd (false≢true (sym (and-false b) ∙ h))
+  has-props b outline h = absurd (false≢true (sym (and-false b) ∙ h))
+  has-props b keepout h = absurd (false≢true (sym (and-false b) ∙ h))
+  has-props b listing h = absurd (false≢true (sym (and-false b) ∙ h))
+  has-props b placements h = absurd (false≢true (sym (and-false b) ∙ h))
 
   place-in : {p : Phase} {n : ℕ} (b : Bool) → SaneIn v g s p → lineAt (shapeOf v s) p b ≡ some n → r .kind ≡ kindAt v s n
       → Stands (advance v (inside g s p) r)
   place-in {n = n} b (sane-title f) i k = stands-by awaitTitle n 1 title (omega arith) (ap (λ (x : Shape). roleIn x 1) f) (to-next (inside g s (afterTitle (typeIn r)))) i k
   place-in {n = n} b (sane-name {t = t} f) i k = stands-by (awaitName t) n 2 name (omega arith) (ap (λ (x : Shape). roleIn x 2) f) (to-next (inside g s (headerFull t))) i k
-  place-in b sane-full i k = absurd (never-some i)
+  place-in b sane-full i k = absurd (none-some i)
   place-in {n = n} b (sane-lead h) i k = stands-by awaitLead n 1 lead (omega arith) (lead-first (shapeOf v s) h) (to-next (inside g s (inPoints noPoint))) i k
   place-in b (sane-points {l = l} h f) i k = point-or-prop l (b && hasProps (shapeOf v s)) h (has-props b (shapeOf v s)) i k
   place-in b sane-props i k = prop-only (b && hasProps (shapeOf v s)) (has-props b (shapeOf v s)) i k

@@ -6,6 +6,8 @@ use mathlib.Core.Bool.{Bool, true, false, not, _&&_, _||_, false≢true}
 use native.Mathlib.Omega.{arith}
 use lib.Dec.{eqb}
 use borrow.Author.Tests.{eqb-true}
+use Rattle.law.specs.Files.{titled}
+use Rattle.basics.proofs.Bools.{not-both, or-second}
 use Rattle.law.specs.Values.{Rec}
 use Rattle.law.specs.Sections.{Shape}
 use Rattle.law.specs.Kinds.{opening, closing, title, name, prop, entry}
@@ -15,7 +17,7 @@ use Rattle.law.specs.declared.FileType.the-variants.{Board as board, Panel as p
 use Rattle.law.specs.Records.{shapeOf, isMiddle, isComponent, isLibrary, typeIn}
 use Rattle.order_loops.specs.Loops.{complete}
 use Rattle.order.specs.Stages.{mayOpen, after, fileOf}
-use Rattle.order.specs.Automaton.{start, startOf, afterTitle, advance, accepting, accepts}
+use Rattle.order.specs.Automaton.{start, startOf, afterTitle, advance, accepting, accepts, typeAt}
 use Rattle.order.specs.declared.Stage.{Stage}
 use Rattle.order.specs.declared.Stage.the-variants.{Nothing as nothing, Headed as headed, Middle as middle, Finished as finished}
 use Rattle.order_loops.specs.declared.LoopState.{LoopState}
@@ -27,7 +29,6 @@ use Rattle.order.specs.declared.State.the-variants.{Between as between, Inside 
 use Rattle.order.specs.declared.Outcome.the-variants.{Next as next}
 use Rattle.law.specs.Lists.{bit, count, Line, Lines, no-line, line, Pairs, no-pair, pair, Body, led, points, listed, placed, Section, section, Sections, no-section, and-section, Header, header-of, header-of-library, Middle, Permitted, a-board, a-panel, a-library}
 use Rattle.law.specs.Bytes.{All}
-use Rattle.shown_lists.proofs.Basics.{not-both}
 use Rattle.shown_lists.proofs.Roles.{starts-led}
 use Rattle.shown_lists.proofs.Tables.{header-first, placement-not-middle}
 use Rattle.shown_lists.proofs.Samples.{retype}
@@ -88,10 +89,6 @@ module _ (v : Rules) where
   bits false true c e = (λ z. refl, omega arith)
   bits false false c e = (λ z. refl, omega arith)
 
-  or-right : (a b : Bool) → b ≡ true → (a || b) ≡ true
-  or-right true b h = refl
-  or-right false b h = h
-
   not-again : (h t : Bool) → (t ≡ true → not h ≡ true) → not (h && t) ≡ true
   not-again true true f = f refl
   not-again true false f = refl
@@ -100,7 +97,7 @@ module _ (v : Rules) where
   middle-opens : (t : FileType) (h n : Bool) (s : ℕ) → isMiddle v s ≡ true → (eqb s 11 ≡ true → not h ≡ true) → (eqb s 12 ≡ true → not n ≡ true)
       → mayOpen v (middle t h n) s ≡ true
   unfolding mayOpen
-  middle-opens t h n s m a b = or-right (eqb s 13) _ (rw (m, not-again h (eqb s 11) a, not-again n (eqb s 12) b))
+  middle-opens t h n s m a b = or-second (eqb s 13) _ (rw (m, not-again h (eqb s 11) a, not-again n (eqb s 12) b))
 
   not-last : (s : ℕ) → isMiddle v s ≡ true → eqb s 13 ≡ false
   not-last s m = go (eqb s 13) refl
@@ -162,13 +159,13 @@ module _ (v : Rules) where
       step (open-header o) (step (title-step library i k) (step (in-step v nothing (headerFull library) c) here))
 
   -- the middle and the placement
-  tail-leads : {rs ps : List Rec} {t : FileType} {st : State} → ToMiddle t st rs → Section v t 13 ps → Leads v st (rs ++ ps) (between finished)
+  tail-leads : {rs ps : List Rec} {t : FileType} {st : State} → ToMiddle t st rs → Section v t 13 ps → Leads v st (rs ++ ps) (between (finished t))
   unfolding after mayOpen
   tail-leads {t = t} (to-middle h n k) p = leads-append v k (section-leads (middle t h n) 13 refl p)
 
   -- header, outline, middle, placement
   whole : {hs os ms ps : List Rec} {ss : List ℕ} (t : FileType) (s : ℕ) → mayOpen v (headed t) s ≡ true → after (headed t) s ≡ middle t false false
-      → Header v t hs → Section v t s os → Sections v t ss ms → Middle v ss → Section v t 13 ps → Leads v start (hs ++ (os ++ (ms ++ ps))) (between finished)
+      → Header v t hs → Section v t s os → Sections v t ss ms → Middle v ss → Section v t 13 ps → Leads v start (hs ++ (os ++ (ms ++ ps))) (between (finished t))
   whole {ss = ss} t s m e h o k a p =
       let x = rw e at (section-leads (headed t) s m o) in
       let c : bit false + count 11 ss ≤ 1 = omega (arith, a .holes-once) in
@@ -178,9 +175,26 @@ module _ (v : Rules) where
   pub leads-to-end : {rs : List Rec} {en : State} → Leads v start rs en → accepting en ≡ true → accepts v start rs ≡ true
   leads-to-end {rs} l e = let x = leads-accepts v l [] in (rw append-nil at x) ∙ e
 
-  -- every permitted list is accepted
-  pub permitted-accepted : {rs : List Rec} → Permitted v rs → accepts v start rs ≡ true
+  -- a permitted list leads to a state in which a file may end, and which has its type
+  pub record Ends (rs : List Rec) : Type 0 where
+    pub state : State
+    pub is-led : Leads v start rs state
+    pub may-end : accepting state ≡ true
+    pub typed : typeAt state ≡ titled rs
+
+  header-titled : {t : FileType} {hs : List Rec} → Header v t hs → (ms : List Rec) → t ≡ titled (hs ++ ms)
+  header-titled (header-of e o k i n c) ms = sym i
+  header-titled (header-of-library o k i c) ms = sym i
+
+  pub permitted-ends : {rs : List Rec} → Permitted v rs → Ends rs
   unfolding after mayOpen
-  permitted-accepted (a-board h o k a p) = leads-to-end (whole board 2 refl refl h o k a p) refl
-  permitted-accepted (a-panel h o k a p) = leads-to-end (whole panel 3 refl refl h o k a p) refl
-  permitted-accepted (a-library h k a) = leads-to-end (leads-append v (header-leads h) (components-lead k a)) refl
+  permitted-ends (a-board {os = os} {ms = ms} {ps = ps} h o k a p) =
+      record { state = between (finished board); is-led = whole board 2 refl refl h o k a p; may-end = refl; typed = header-titled h (os ++ (ms ++ ps)) }
+  permitted-ends (a-panel {os = os} {ms = ms} {ps = ps} h o k a p) =
+      record { state = between (finished panel); is-led = whole panel 3 refl refl h o k a p; may-end = refl; typed = header-titled h (os ++ (ms ++ ps)) }
+  permitted-ends (a-library {ms = ms} h k a) =
+      record { state = between (headed library); is-led = leads-append v (header-leads h) (components-lead k a); may-end = refl; typed = header-titled h ms }
+
+  -- so it is accepted
+  pub permitted-accepted : {rs : List Rec} → Permitted v rs → accepts v start rs ≡ true
+  permitted-accepted p = let e = permitted-ends p in leads-to-end (e .is-led) (e .may-end)

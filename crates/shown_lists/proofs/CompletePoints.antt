@@ -6,6 +6,9 @@ use mathlib.Core.List.{List, [], _∷_, _++_}
 use mathlib.Core.Option.{some}
 use mathlib.Core.Bool.{Bool, true, false, cond}
 use lib.IntN.{ℤ, pos, sucℤ}
+use Rattle.basics.proofs.Integers.{eqZ-same, eqZ-differ}
+use Rattle.basics.proofs.Bools.{eqb-self}
+use Rattle.basics.specs.Integers.{eqZ}
 use Rattle.law.specs.Values.{Rec}
 use Rattle.law.specs.Kinds.{Role, opening, point}
 use Rattle.law.specs.declared.Rules.{Rules}
@@ -13,7 +16,7 @@ use Rattle.law.specs.declared.FileType.{FileType}
 use Rattle.law.specs.Records.{shapeOf, manyLoops, Place, labelOf, placeOf, angleOf}
 use Rattle.order.specs.Marks.{pointOf}
 use Rattle.law.specs.Limits.{wholeTurn}
-use Rattle.order_loops.specs.Loops.{eqZ, samePlace, goesOn, reached, loopAfter, complete}
+use Rattle.order_loops.specs.Loops.{samePlace, goesOn, reached, loopAfter, complete}
 use Rattle.order.specs.Stages.{mayOpen, fileOf}
 use Rattle.order.specs.Automaton.{startOf, afterPoint, atPhase, advance, accepts}
 use Rattle.order_loops.specs.declared.Place.{Place as Spot}
@@ -26,7 +29,7 @@ use Rattle.order.specs.declared.State.{State}
 use Rattle.order.specs.declared.State.the-variants.{Between as between, Inside as inside}
 use Rattle.order.specs.declared.Outcome.the-variants.{Next as next}
 use Rattle.law.specs.Lists.{Line, Step, Return, last, further, Loop, circle, path, Loops, final, another, Points, numbered, single}
-use Rattle.shown_lists.proofs.Basics.{eqb-self, eqZ-same, eqZ-differ, spot, held, spotOf, same-true, same-same, same-differ, suc-differs}
+use Rattle.shown_lists.proofs.Spots.{spot, held, spotOf, same-true, same-same, same-differ, suc-differs}
 
 module _ (v : Rules) where
   -- a list of records carries one state to another

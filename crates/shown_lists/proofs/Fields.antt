@@ -4,6 +4,8 @@ use mathlib.Core.List.{List, [], _∷_}
 use mathlib.Core.Bool.{Bool, true, false, not, _&&_, false≢true}
 use lib.Dec.{leb}
 use lib.IntN.{ℤ, pos, natAbs}
+use borrow.Author.Tests.{not-true}
+use Rattle.basics.proofs.Bools.{both}
 use Rattle.law.specs.Limits.{largestLength}
 use Rattle.law.specs.Values.{Value, number, word, text}
 use Rattle.law.specs.Fits.{under, within, fits, fitsAll}
@@ -14,7 +16,6 @@ use Rattle.law.specs.declared.Limit.{Limit}
 use Rattle.law.specs.declared.Limit.the-variants.{Length, NotBelow, Above, Included, Rotation, Version}
 use Rattle.law.specs.declared.FieldType.{FieldType}
 use Rattle.law.specs.declared.FieldType.the-variants.{Text, Reference, Date, Integer, Number, Word}
-use Rattle.shown_lists.proofs.Basics.{both, was-false}
 
 -- BOARD as reference occurs only in a panel: only a reference depends on the file's type
 abbrev isReference : FieldType → Bool
@@ -94,7 +95,7 @@ module _ (v : Rules) (t u : FileType) where
   fits-all-any (f ∷ fs) [] h = refl
   fits-all-any (f ∷ fs) (x ∷ xs) h =
       let w = both _ _ h in
-      rw (fits-any f x (was-false _ (w .0)), fits-all-any fs xs (w .1))
+      rw (fits-any f x (not-true _ (w .0)), fits-all-any fs xs (w .1))
 
 module _ (c : Context) where
   pub has-label : (fs : List FieldType) → lengthSecond fs ≡ true → fitsAll c fs [] ≡ true → ⊥

@@ -7,20 +7,21 @@ use mathlib.Core.Bool.{Bool, true, false, cond, _&&_, false≢true}
 use native.Mathlib.Omega.{arith}
 use native.Mathlib.Decide.{decLt}
 use lib.ListN.{length, take}
+use Rattle.law.specs.Files.{titled}
+use Rattle.basics.proofs.Bools.{not-both}
 use Rattle.law.specs.Values.{Rec}
 use Rattle.law.specs.declared.Rules.{Rules}
 use Rattle.law.specs.Records.{Named, namesAComponent, nameIn}
-use Rattle.order.specs.Automaton.{start, advance, accepting, accepted, accepts, isAmong, repeats, noted, unless, judge, Ran, through, stopped, later, onward, run}
+use Rattle.order.specs.Automaton.{start, advance, accepting, accepted, accepts, isAmong, repeats, noted, unless, admit, Ran, through, stopped, later, onward, run, typeAt}
 use Rattle.order.specs.declared.State.{State}
 use Rattle.order.specs.declared.Reason.{Reason}
 use Rattle.order.specs.declared.Outcome.{Outcome}
 use Rattle.order.specs.declared.Outcome.the-variants.{Next as next, Refused as refused}
 use Rattle.law.specs.Lists.{Permitted, namesOf, AllDiffer, Distinct}
-use Rattle.shown_lists.proofs.Basics.{not-both}
 use Rattle.shown_lists.proofs.Names.{not-among, among-false, Unused, unused-none, unused-one, unused-differ, differ-unused, letters, letters-text, longest, new-last, names-append}
 use Rattle.shown_lists.proofs.Sound.{accepted-permitted}
 use Rattle.shown_lists.proofs.CompletePoints.{Leads, here, step, leads-accepts}
-use Rattle.shown_lists.proofs.Complete.{permitted-accepted}
+use Rattle.shown_lists.proofs.Complete.{permitted-accepted, permitted-ends}
 use Rattle.shown_lists.proofs.Sane.{Sane, sane-between, SaneOf, sane-advance}
 use Rattle.shown_lists.proofs.Viable.{Ending, quietly, with-one, ending}
 
@@ -30,7 +31,7 @@ module _ (v : Rules) where
     pub moves : advance v st r ≡ next mid
     pub is-new : repeats v used r ≡ false
 
-  pub taken : (used : List Named) (st mid : State) (r : Rec) → judge v used st r ≡ next mid → Taken used st mid r
+  pub taken : (used : List Named) (st mid : State) (r : Rec) → admit v used st r ≡ next mid → Taken used st mid r
   taken used st mid r = go (repeats v used r) (advance v st r) refl refl
     where
       go : (b : Bool) (o : Outcome) → repeats v used r ≡ b → advance v st r ≡ o → unless b o ≡ next mid → Taken used st mid r
@@ -56,10 +57,10 @@ module _ (v : Rules) where
 
   through-leads : (rs : List Rec) (used : List Named) (st en : State) → run v used st rs ≡ through en → Leads v st rs en × Unused used (namesOf v rs)
   through-leads [] used st en h = (subst (λ (x : State). Leads v st [] x) (through-same h) here, unused-none)
-  through-leads (r ∷ rs) used st en h = go (λ t. through-leads rs (noted v used r) t en) (judge v used st r) refl h
+  through-leads (r ∷ rs) used st en h = go (λ t. through-leads rs (noted v used r) t en) (admit v used st r) refl h
     where
       go : ((t : State) → run v (noted v used r) t rs ≡ through en → Leads v t rs en × Unused (noted v used r) (namesOf v rs))
-          → (o : Outcome) → judge v used st r ≡ o → onward o (λ t. run v (noted v used r) t rs) ≡ through en → Leads v st (r ∷ rs) en × Unused used (namesOf v (r ∷ rs))
+          → (o : Outcome) → admit v used st r ≡ o → onward o (λ t. run v (noted v used r) t rs) ≡ through en → Leads v st (r ∷ rs) en × Unused used (namesOf v (r ∷ rs))
       go ih (refused e) q h = let z : _≡_ {A = ℕ} 0 1 = cc in absurd (omega arith)
       go ih (next t) q h =
           let k = taken used st t r q in
@@ -92,6 +93,14 @@ module _ (v : Rules) where
 
   leads-accepted : {st en : State} {rs : List Rec} → Leads v st rs en → accepting en ≡ true → accepts v st rs ≡ true
   leads-accepted l e = let x = leads-accepts v l [] in (rw append-nil at x) ∙ e
+
+  leads-one : {st a b : State} {rs : List Rec} → Leads v st rs a → Leads v st rs b → a ≡ b
+  leads-one here here = refl
+  leads-one {b = b} (step {mid = m} {rs = rs} e k) (step {mid = n} d l) = let z : n ≡ m = cc in leads-one k (subst (λ (x : State). Leads v x rs b) z l)
+
+  -- the state in which a run through a permitted list ends has the type in its title line
+  pub run-typed : {rs : List Rec} {en : State} → Permitted v rs → run v [] start rs ≡ through en → typeAt en ≡ titled rs
+  run-typed {rs} {en} p h = let e = permitted-ends v p in ap typeAt (leads-one (through-leads rs [] start en h .0) (e .is-led)) ∙ e .typed
 
   -- the run goes through and may end there
   abbrev pub Accepted : List Rec → Type 0
@@ -148,7 +157,7 @@ module _ (v : Rules) where
       → run v used st (take i rs ++ more) ≡ stopped k e
   still-stopped rs used st k zero e more h l = absurd (omega arith)
   still-stopped [] used st k (suc i) e more h l = absurd (never-through h)
-  still-stopped (r ∷ rs) used st k (suc i) e more h l = go k (judge v used st r) (λ t j. still-stopped rs (noted v used r) t j i e more) h l
+  still-stopped (r ∷ rs) used st k (suc i) e more h l = go k (admit v used st r) (λ t j. still-stopped rs (noted v used r) t j i e more) h l
     where
       go : (k : ℕ) (o : Outcome)
           → ((t : State) (j : ℕ) → run v (noted v used r) t rs ≡ stopped j e → j < i → run v (noted v used r) t (take i rs ++ more) ≡ stopped j e)
@@ -160,7 +169,7 @@ module _ (v : Rules) where
   stopped-within : (rs : List Rec) (used : List Named) (st : State) (k : ℕ) (e : Reason) → run v used st rs ≡ stopped k e → k < length rs
   stopped-within [] used st k e h = absurd (never-through h)
   stopped-within (r ∷ rs) used st zero e h = omega arith
-  stopped-within (r ∷ rs) used st (suc k) e h = go (judge v used st r) (λ t. stopped-within rs (noted v used r) t k e) h
+  stopped-within (r ∷ rs) used st (suc k) e h = go (admit v used st r) (λ t. stopped-within rs (noted v used r) t k e) h
     where
       go : (o : Outcome) → ((t : State) → run v (noted v used r) t rs ≡ stopped k e → k < length rs)
           → onward o (λ t. run v (noted v used r) t rs) ≡ stopped (suc k) e → suc k < length (r ∷ rs)
@@ -176,7 +185,7 @@ module _ (v : Rules) where
   unfolding Through
   through-before rs used st zero k e h l = (st, refl)
   through-before [] used st (suc j) k e h l = absurd (never-through h)
-  through-before (r ∷ rs) used st (suc j) k e h l = go k (judge v used st r) (λ t i. through-before rs (noted v used r) t j i e) h l
+  through-before (r ∷ rs) used st (suc j) k e h l = go k (admit v used st r) (λ t i. through-before rs (noted v used r) t j i e) h l
     where
       go : (k : ℕ) (o : Outcome) → ((t : State) (i : ℕ) → run v (noted v used r) t rs ≡ stopped i e → j ≤ i → Through (noted v used r) t (take j rs))
           → onward o (λ t. run v (noted v used r) t rs) ≡ stopped k e → suc j ≤ k → (en : State) × (onward o (λ t. run v (noted v used r) t (take j rs)) ≡ through en)
@@ -188,7 +197,7 @@ module _ (v : Rules) where
   unfolding Through
   through-part rs used st en zero h = (st, refl)
   through-part [] used st en (suc j) h = (st, refl)
-  through-part (r ∷ rs) used st en (suc j) h = go (judge v used st r) (λ t. through-part rs (noted v used r) t en j) h
+  through-part (r ∷ rs) used st en (suc j) h = go (admit v used st r) (λ t. through-part rs (noted v used r) t en j) h
     where
       go : (o : Outcome) → ((t : State) → run v (noted v used r) t rs ≡ through en → Through (noted v used r) t (take j rs))
           → onward o (λ t. run v (noted v used r) t rs) ≡ through en → (en : State) × (onward o (λ t. run v (noted v used r) t (take j rs)) ≡ through en)

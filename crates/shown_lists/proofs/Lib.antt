@@ -1,4 +1,4 @@
-pub mod Basics
+pub mod Spots
 pub mod Roles
 pub mod Fields
 pub mod Tables

@@ -6,6 +6,8 @@ use mathlib.Core.List.{List, [], _∷_, _++_}
 use mathlib.Core.Bool.{Bool, true, false, cond, _||_, false≢true}
 use native.Mathlib.Omega.{arith}
 use lib.ListN.{length}
+use Rattle.basics.proofs.Bytes.{bytes-true, bytes-self}
+use Rattle.basics.proofs.Bools.{both, not-both, fails, neither}
 use Rattle.law.specs.Bytes.{allOf, permitted}
 use Rattle.law.specs.Values.{Rec}
 use Rattle.law.specs.Words.{sameBytes}
@@ -14,9 +16,8 @@ use Rattle.law.specs.declared.Rules.{Rules}
 use Rattle.law.specs.Records.{Named, namesAComponent, nameIn}
 use Rattle.order.specs.Automaton.{sameName, isAmong}
 use Rattle.law.specs.Lists.{namesOf, NotAmong, in-none, nor, AllDiffer, nothing-named, and-new}
-use Rattle.shown_lists.proofs.Basics.{both, not-both, off, bytes-true, bytes-self}
 
-name-true : (a b : Named) → sameName a b ≡ true → a ≡ b
+pub name-true : (a b : Named) → sameName a b ≡ true → a ≡ b
 name-true a b h =
     let w = both (sameBytes (a .geometry) (b .geometry)) (sameBytes (a .number) (b .number)) h in
     let p = bytes-true _ _ (w .0) in
@@ -26,12 +27,8 @@ name-true a b h =
 name-self : (a : Named) → sameName a a ≡ true
 name-self a = rw (bytes-self (a .geometry), bytes-self (a .number))
 
-name-same : (a b : Named) → a ≡ b → sameName a b ≡ true
+pub name-same : (a b : Named) → a ≡ b → sameName a b ≡ true
 name-same a b e = rw e (name-self b)
-
-neither : (a b : Bool) → (a || b) ≡ false → (a ≡ false) × (b ≡ false)
-neither true b h = absurd (false≢true (sym h))
-neither false b h = (refl, h)
 
 pub not-among : (a : Named) (bs : List Named) → isAmong a bs ≡ false → NotAmong a bs
 not-among a [] h = in-none
@@ -41,7 +38,7 @@ not-among a (b ∷ bs) h =
 
 pub among-false : {a : Named} {bs : List Named} → NotAmong a bs → isAmong a bs ≡ false
 among-false in-none = refl
-among-false {a} (nor {b} n k) = rw (off a b (sameName a b) (name-true a b) n) (among-false k)
+among-false {a} (nor {b} n k) = rw (fails a b (sameName a b) (name-true a b) n) (among-false k)
 
 pub data Unused : List Named → List Named → Type 0 where
   unused-none : {used : List Named} → Unused used []

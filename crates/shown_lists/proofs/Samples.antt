@@ -7,6 +7,10 @@ use mathlib.Core.Bool.{Bool, true, false, not, _&&_}
 use native.Mathlib.Omega.{arith}
 use lib.Dec.{leb}
 use lib.IntN.{ℤ, pos, natAbs}
+use Rattle.basics.proofs.Bytes.{bytes-self}
+use Rattle.basics.proofs.Integers.{eqZ-true, eqZ-false}
+use Rattle.basics.proofs.Bools.{both}
+use Rattle.basics.specs.Integers.{eqZ}
 use Rattle.law.specs.Bytes.{allOf, ascii}
 use Rattle.law.specs.Limits.{largestLength}
 use Rattle.law.specs.Dates.{datePieces, isTwo, fitsIn, isDate}
@@ -24,11 +28,9 @@ use Rattle.law.specs.declared.Limit.the-variants.{Length, NotBelow, Above, Incl
 use Rattle.law.specs.declared.FieldType.{FieldType}
 use Rattle.law.specs.declared.FieldType.the-variants.{Text, Reference, Date, Integer, Number, Word}
 use Rattle.law.specs.Records.{shapeOf, Place, labelOf, placeOf, angleOf, namesAComponent}
-use Rattle.order_loops.specs.Loops.{eqZ}
 use Rattle.order.specs.Places.{pointLine}
 use Rattle.order.specs.Automaton.{isRole}
 use Rattle.law.specs.Lists.{Line}
-use Rattle.shown_lists.proofs.Basics.{both, eqZ-true, eqZ-false, bytes-self}
 use Rattle.shown_lists.proofs.Roles.{isSection, hasPoints, point-line}
 use Rattle.shown_lists.proofs.Fields.{lengthSecond, origin, setX, fits-all-any, has-label, has-x, set-fits}
 use Rattle.shown_lists.proofs.Tables.{section-at, role-at, named-lead, first-word, version-fits, pointable, Laid, laid}

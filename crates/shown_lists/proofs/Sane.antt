@@ -7,6 +7,9 @@ use mathlib.Core.Bool.{Bool, true, false, cond, _&&_}
 use lib.Dec.{eqb}
 use lib.IntN.{ℤ, pos, sucℤ}
 use borrow.Author.Tests.{eqb-true}
+use Rattle.basics.proofs.Integers.{eqZ-true}
+use Rattle.basics.proofs.Bools.{both}
+use Rattle.basics.specs.Integers.{eqZ}
 use Rattle.law.specs.Values.{Rec}
 use Rattle.law.specs.Sections.{Shape, header, outline, component, keepout, listing, placements}
 use Rattle.law.specs.Kinds.{sectionOf, Role, opening, closing, title, name, lead, point, prop, entry, part, position, roleOf}
@@ -16,7 +19,7 @@ use Rattle.law.specs.declared.FileType.{FileType}
 use Rattle.law.specs.declared.FileType.the-variants.{Board as board, Panel as panel, Library as library}
 use Rattle.law.specs.Records.{shapeOf, manyLoops, labelOf, placeOf, angleOf, typeIn}
 use Rattle.order.specs.Marks.{pointOf}
-use Rattle.order_loops.specs.Loops.{eqZ, samePlace, begins, firstLabel, goesOn, closes, reached, loopAfter, complete}
+use Rattle.order_loops.specs.Loops.{samePlace, begins, firstLabel, goesOn, closes, reached, loopAfter, complete}
 use Rattle.order.specs.Stages.{mayOpen, fileOf}
 use Rattle.order.specs.Automaton.{startOf, isRole, if-fit, afterTitle, afterPoint, onlyIf, atPhase, advance}
 use Rattle.order_loops.specs.declared.Place.{Place as Spot}
@@ -31,7 +34,7 @@ use Rattle.order.specs.declared.Reason.the-variants.{Misplaced as misplaced}
 use Rattle.order.specs.declared.Outcome.{Outcome}
 use Rattle.order.specs.declared.Outcome.the-variants.{Next as next, Refused as refused}
 use Rattle.law.specs.Lists.{leads, Line}
-use Rattle.shown_lists.proofs.Basics.{both, eqZ-true, spot, spotOf, same-false}
+use Rattle.shown_lists.proofs.Spots.{spot, spotOf, same-false}
 use Rattle.shown_lists.proofs.Roles.{isSection, isRole-true, hasPoints, led-points, role-known}
 
 module _ (v : Rules) where

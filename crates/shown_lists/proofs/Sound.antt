@@ -7,6 +7,7 @@ use mathlib.Core.Bool.{Bool, true, false, cond, not, _&&_, _||_, false≢true}
 use native.Mathlib.Omega.{arith}
 use lib.Dec.{eqb}
 use borrow.Author.Tests.{eqb-true}
+use Rattle.basics.proofs.Bools.{both, not-both}
 use Rattle.law.specs.Values.{Rec}
 use Rattle.law.specs.Sections.{Shape, header, outline, component, keepout, listing, placements}
 use Rattle.law.specs.Kinds.{sectionOf, opening, closing, title, prop, roleOf}
@@ -26,7 +27,6 @@ use Rattle.order.specs.declared.State.the-variants.{Between as between, Inside 
 use Rattle.order.specs.declared.Reason.the-variants.{Misplaced as misplaced}
 use Rattle.order.specs.declared.Outcome.the-variants.{Next as next, Refused as refused}
 use Rattle.law.specs.Lists.{leads, bit, Line, Points, Lines, no-line, line, Body, led, points, listed, placed, Section, section, no-section, and-section, header-of, header-of-library, Permitted, a-board, a-panel, a-library}
-use Rattle.shown_lists.proofs.Basics.{both, not-both}
 use Rattle.shown_lists.proofs.Roles.{isRole-true, isHeader, prop-component}
 use Rattle.shown_lists.proofs.Tables.{header-first, header-not-middle, no-header}
 use Rattle.shown_lists.proofs.Samples.{retype}
@@ -87,7 +87,7 @@ module _ (v : Rules) where
   unfolding mayOpen after
   middle-before {t} {s} h n m (opened k o) = go (eqb s 13) refl k o
     where
-      go : {xs ys : List Rec} (b : Bool) → eqb s 13 ≡ b → Section v t s xs → Onto v (cond b finished (middle t (h || eqb s 11) (n || eqb s 12))) ys
+      go : {xs ys : List Rec} (b : Bool) → eqb s 13 ≡ b → Section v t s xs → Onto v (cond b (finished t) (middle t (h || eqb s 11) (n || eqb s 12))) ys
           → Onto v (middle t h n) (xs ++ ys)
       go true e k onto-end = rw append-nil (onto-middle no-section B.none (bit-small h) (bit-small n) (rw (eqb-true s 13 e) at k))
       go {xs = xs} false e k (onto-middle {ms = ms} {ps = ps} ss a c d p) =
@@ -115,7 +115,7 @@ module _ (v : Rules) where
   stage-before {rs = rs} (headed panel) m e o = panel-before (subst (λ (n : ℕ). Opened (headed panel) n rs) (eqb-true _ _ m) o)
   stage-before (headed library) m e o = library-before m o
   stage-before (middle t h n) m e o = middle-before h n m o
-  stage-before finished m e o = absurd (false≢true m)
+  stage-before (finished t) m e o = absurd (false≢true m)
 
   -- the header
   header-by : {o a : Rec} {ms : List Rec} (t : FileType) → typeIn a ≡ t → Line v library 1 opening o → Line v library 1 title a
@@ -151,7 +151,7 @@ module _ (v : Rules) where
     open-before (headed panel) m k w = later-before (headed panel) refl m k w
     open-before (headed library) m k w = later-before (headed library) refl m k w
     open-before (middle t h n) m k w = later-before (middle t h n) (rw (header-not-middle v)) m k w
-    open-before finished m k w = later-before finished refl m k w
+    open-before (finished t) m k w = later-before (finished t) refl m k w
 
   between-before : (g : Stage) (r : Rec) (ms : List Rec) → ((st : State) → accepts v st ms ≡ true → Rest v st ms)
       → accepted (advance v (between g) r) (λ st. accepts v st ms) ≡ true → Rest v (between g) (r ∷ ms)
@@ -176,7 +176,7 @@ module _ (v : Rules) where
   at-end (between (headed panel)) h = absurd (false≢true h)
   at-end (between (headed library)) h = rest-between (onto-library no-section B.none)
   at-end (between (middle t a b)) h = absurd (false≢true h)
-  at-end (between finished) h = rest-between onto-end
+  at-end (between (finished t)) h = rest-between onto-end
 
   rest-of : (rs : List Rec) (st : State) → accepts v st rs ≡ true → Rest v st rs
   rest-of [] st h = at-end st h

@@ -6,6 +6,10 @@ use mathlib.Core.List.{List, [], _∷_, _++_, append-nil}
 use mathlib.Core.Option.{Option, none, some}
 use mathlib.Core.Bool.{Bool, true, false, cond, _&&_, false≢true}
 use lib.IntN.{ℤ, pos, sucℤ}
+use borrow.Author.Tests.{not-true}
+use Rattle.basics.proofs.Integers.{eqZ-true, eqZ-false}
+use Rattle.basics.proofs.Bools.{both, either, other, not-both}
+use Rattle.basics.specs.Integers.{eqZ}
 use Rattle.law.specs.Values.{Rec}
 use Rattle.law.specs.Kinds.{point}
 use Rattle.law.specs.declared.Rules.{Rules}
@@ -13,12 +17,12 @@ use Rattle.law.specs.declared.FileType.{FileType}
 use Rattle.law.specs.Records.{manyLoops, Place, labelOf, placeOf, angleOf}
 use Rattle.order.specs.Marks.{pointOf}
 use Rattle.law.specs.Limits.{wholeTurn}
-use Rattle.order_loops.specs.Loops.{eqZ, samePlace, begins, firstLabel, goesOn, closes, reached, loopAfter, complete}
+use Rattle.order_loops.specs.Loops.{samePlace, begins, firstLabel, goesOn, closes, reached, loopAfter, complete}
 use Rattle.order_loops.specs.declared.Place.{Place as Spot}
 use Rattle.order_loops.specs.declared.LoopState.{LoopState}
 use Rattle.order_loops.specs.declared.LoopState.the-variants.{NoPoint as noPoint, OnePoint as onePoint, Away as away, Back as back, Round as round}
 use Rattle.law.specs.Lists.{Line, PointLine, Step, Return, last, further, Loop, circle, path, Loops, final, another, Points, numbered, single}
-use Rattle.shown_lists.proofs.Basics.{both, either, other, was-false, not-both, eqZ-true, eqZ-false, same-true, same-spot, same-false, spot, spotOf}
+use Rattle.shown_lists.proofs.Spots.{same-true, same-spot, same-false, spot, spotOf}
 
 module _ (v : Rules) (t : FileType) (s : ℕ) where
   -- after a complete loop: nothing, or loops with the labels after it
@@ -92,8 +96,8 @@ module _ (v : Rules) (t : FileType) (s : ℕ) where
         let y = both _ _ (u .0) in
         record {
           is-point = record { line = k; labelled = eqZ-true _ _ (y .0) };
-          elsewhere = same-false (spotOf r) q (was-false _ (y .1));
-          not-360 = eqZ-false _ _ (was-false _ (u .1));
+          elsewhere = same-false (spotOf r) q (not-true _ (y .1));
+          not-360 = eqZ-false _ _ (not-true _ (u .1));
         }
 
     goes-before : {ms : List Rec} (label : ℤ) (f q : Spot) → goesOn label q (pointOf r) ≡ true → Tail (reached label f (spotOf r)) ms
@@ -147,7 +151,7 @@ module _ (v : Rules) (t : FileType) (s : ℕ) where
     round-before {f = f} h (at-round m) =
         let u = both _ _ h in
         let y = both _ _ (u .0) in
-        at-one (is-circle (record { line = k; labelled = eqZ-true _ _ (y .0) }) (same-false (spotOf r) f (was-false _ (y .1))) (eqZ-true _ _ (u .1))) m
+        at-one (is-circle (record { line = k; labelled = eqZ-true _ _ (y .0) }) (same-false (spotOf r) f (not-true _ (y .1))) (eqZ-true _ _ (u .1))) m
 
     pub point-before : {ms : List Rec} (l : LoopState) → TailOf (loopAfter (manyLoops s) l (pointOf r)) ms → Tail l (r ∷ ms)
     unfolding loopAfter

@@ -54,7 +54,7 @@ module _ (v : Rules) where
     onto-middle : {t : FileType} {h n : Bool} {ms ps : List Rec} {ss : List ℕ} → Sections v t ss ms → All (isMiddle v) ss → bit h + count 11 ss ≤ 1
         → bit n + count 12 ss ≤ 1
         → Section v t 13 ps → Onto (middle t h n) (ms ++ ps)
-    onto-end : Onto finished []
+    onto-end : {t : FileType} → Onto (finished t) []
 
   pub data Rest : State → List Rec → Type 0 where
     rest-between : {g : Stage} {rs : List Rec} → Onto g rs → Rest (between g) rs

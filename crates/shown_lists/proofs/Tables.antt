@@ -9,11 +9,14 @@ use native.Mathlib.Omega.{arith}
 use lib.Dec.{leb, eqb}
 use lib.IntN.{pos}
 use lib.ListN.{length}
-use borrow.Author.Tests.{eqb-true, leb-true, le-leb}
+use borrow.Author.Tests.{eqb-true, leb-true, le-leb, not-true}
+use Rattle.rows.proofs.EachKind.{each-kind}
+use Rattle.basics.proofs.Tables.{below-all}
+use Rattle.basics.proofs.Bools.{both, either, other, not-both}
 use Rattle.law.specs.Values.{number}
 use Rattle.law.specs.Words.{wordsOf, wordAt}
 use Rattle.law.specs.Sections.{SectionForm as Sect, header, placements, sections, nth, sectionAt}
-use Rattle.law.specs.Kinds.{kindAt, sectionOf, lineOf, Role, lead, point, part, unknown, roleIn, roleOf}
+use Rattle.law.specs.Kinds.{kindAt, sectionOf, lineOf, Role, lead, point, part, unknown, roleIn, roleOf, lastKind}
 use Rattle.law.specs.Layouts.{Layout, layoutOf, typesOf}
 use Rattle.law.specs.Fits.{versionOf, under, within, goodWord, isEmpty, fits, fitsAll}
 use Rattle.law.specs.declared.Rules.{Rules}
@@ -28,7 +31,6 @@ use Rattle.law.specs.declared.FieldType.the-variants.{Text, Number, Word}
 use Rattle.law.specs.Records.{shapeBy, shapeOf, isMiddle, namesAComponent}
 use Rattle.order.specs.Automaton.{isRole}
 use Rattle.law.specs.Lists.{leads}
-use Rattle.shown_lists.proofs.Basics.{both, either, other, was-false, not-both, at-each}
 use Rattle.shown_lists.proofs.Roles.{isSome, isSection, isHeader, role-known, role-by}
 use Rattle.shown_lists.proofs.Fields.{noReference, lengthSecond, origin}
 
@@ -73,7 +75,7 @@ headerOnce v s = eqb s 1 || not (isHeader (shapeOf v s))
 
 header-once : (v : Rules) (s : ℕ) → isSection v s ≡ true → headerOnce v s ≡ true
 unfolding shapeOf sections
-header-once Idf3 s h = at-each (headerOnce Idf3) 16 s refl (omega (arith, section-number Idf3 s h))
+header-once Idf3 s h = below-all 16 (headerOnce Idf3) refl s (omega (arith, section-number Idf3 s h))
 
 pub no-header : (v : Rules) (s : ℕ) → eqb s 1 ≡ false → isHeader (shapeOf v s) ≡ false
 unfolding shapeOf
@@ -81,12 +83,12 @@ no-header v s e = go (sectionAt v s) refl
   where
     go : (o : Option Sect) → sectionAt v s ≡ o → isHeader (shapeBy o) ≡ false
     go none h = refl
-    go (some d) h = let w = header-once v s (rw h refl) in rw h at (was-false (isHeader (shapeOf v s)) (rw e at w))
+    go (some d) h = let w = header-once v s (rw h refl) in rw h at (not-true (isHeader (shapeOf v s)) (rw e at w))
 
 -- a kind by section and line has that section, that line, and its role
 pub section-at : (v : Rules) (s n : ℕ) → isSection v s ≡ true → n ≤ 9 → sectionOf v (kindAt v s n) ≡ s
 unfolding sectionOf kindAt sections
-section-at Idf3 s n i h = let l = section-number Idf3 s i in rw (le-leb (10 * s + n) 159 (omega arith)) (omega arith)
+section-at Idf3 s n i h = let l = section-number Idf3 s i in rw (le-leb (10 * s + n) lastKind (omega arith)) (omega arith)
 
 pub line-at : (v : Rules) (s n : ℕ) → n ≤ 9 → lineOf v (kindAt v s n) ≡ n
 unfolding lineOf kindAt
@@ -99,9 +101,9 @@ role-at v s n i h = rw (section-at v s n i h, line-at v s n h) (role-by v s n i)
 -- a kind with a role is given by its section and line
 pub kind-of : (v : Rules) (k : ℕ) → isRole (roleOf v k) unknown ≡ false → kindAt v (sectionOf v k) (lineOf v k) ≡ k
 unfolding kindAt sectionOf lineOf
-kind-of Idf3 k h = go (leb k 159) refl (role-known Idf3 k h)
+kind-of Idf3 k h = go (leb k lastKind) refl (role-known Idf3 k h)
   where
-    go : (b : Bool) → leb k 159 ≡ b → isSection Idf3 (cond b (k / 10) 0) ≡ true → 10 * cond b (k / 10) 0 + k % 10 ≡ k
+    go : (b : Bool) → leb k lastKind ≡ b → isSection Idf3 (cond b (k / 10) 0) ≡ true → 10 * cond b (k / 10) 0 + k % 10 ≡ k
     go true e i = omega arith
     go false e i = absurd (false≢true i)
 
@@ -150,14 +152,7 @@ asked v role (some l) =
 -- of every kind: computed for those of the table, and past them there is neither role nor layout
 pub as-asked : (v : Rules) (k : ℕ) → asked v (roleOf v k) (layoutOf v k) ≡ true
 unfolding roleOf layoutOf sectionOf lineOf sections fits fitsAll within
-as-asked Idf3 k = go (leb k 159) refl
-  where
-    test : ℕ → Bool
-    test n = asked Idf3 (roleOf Idf3 n) (layoutOf Idf3 n)
-
-    go : (b : Bool) → leb k 159 ≡ b → test k ≡ true
-    go true e = at-each test 160 k refl (omega (arith, leb-true k 159 e))
-    go false e = rw e
+as-asked Idf3 = each-kind (λ k. asked Idf3 (roleOf Idf3 k) (layoutOf Idf3 k)) refl (λ k e. rw e)
 
 -- the layout of a kind with a role
 pub record Laid (v : Rules) (k : ℕ) : Type 0 where

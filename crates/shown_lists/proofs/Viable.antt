@@ -7,6 +7,8 @@ use mathlib.Core.Option.{some}
 use mathlib.Core.Bool.{Bool, true, false}
 use native.Mathlib.Omega.{arith}
 use lib.IntN.{ℤ, pos}
+use Rattle.basics.proofs.Integers.{eqZ-same, eqZ-differ}
+use Rattle.basics.specs.Integers.{eqZ}
 use Rattle.law.specs.Bytes.{allOf}
 use Rattle.law.specs.Values.{Rec}
 use Rattle.law.specs.Sections.{Shape, header, placements}
@@ -18,7 +20,7 @@ use Rattle.law.specs.declared.FileType.the-variants.{Board as board, Panel as p
 use Rattle.law.specs.Records.{shapeOf, manyLoops, labelOf, placeOf, angleOf, typeIn, namesAComponent, nameIn}
 use Rattle.order.specs.Marks.{pointOf}
 use Rattle.law.specs.Limits.{wholeTurn}
-use Rattle.order_loops.specs.Loops.{eqZ, reached, loopAfter, complete}
+use Rattle.order_loops.specs.Loops.{reached, loopAfter, complete}
 use Rattle.order.specs.Stages.{mayOpen, after, fileOf}
 use Rattle.order.specs.Places.{pointLine}
 use Rattle.order.specs.Automaton.{startOf, isRole, afterTitle, advance, accepting, accepts}
@@ -33,7 +35,7 @@ use Rattle.order.specs.declared.State.{State}
 use Rattle.order.specs.declared.State.the-variants.{Between as between, Inside as inside}
 use Rattle.order.specs.declared.Outcome.the-variants.{Next as next}
 use Rattle.law.specs.Lists.{leads, Line, namesOf}
-use Rattle.shown_lists.proofs.Basics.{spot, spotOf, eqZ-same, eqZ-differ, same-same, same-differ}
+use Rattle.shown_lists.proofs.Spots.{spot, spotOf, same-same, same-differ}
 use Rattle.shown_lists.proofs.Roles.{isSection, hasPoints, led-points, lead-first, starts-led}
 use Rattle.shown_lists.proofs.Tables.{header-first, placement-shape, outline-leads, are-sections, section-at, role-at, component-fields, outlines-name-none}
 use Rattle.shown_lists.proofs.Samples.{originAt, sample, sample-line, origin-line, elsewhere, no-name}
@@ -146,7 +148,7 @@ module _ (v : Rules) where
     unfolding mayOpen after
     quiet-middle t h n =
         let i = are-sections v .3 in
-        quiet-open (middle t h n) 13 i refl (rw (placement-shape v) (quiet-part (middle t h n) 13 i (quiet-end finished refl)))
+        quiet-open (middle t h n) 13 i refl (rw (placement-shape v) (quiet-part (middle t h n) 13 i (quiet-end (finished t) refl)))
 
     quiet-outline : (t : FileType) (s : ℕ) → isSection v s ≡ true → mayOpen v (headed t) s ≡ true → leads (shapeOf v s) ≡ true
         → namesAComponent v (kindAt v s 1) ≡ false → Quiet (between (after (headed t) s)) → Quiet (between (headed t))
@@ -184,7 +186,7 @@ module _ (v : Rules) where
     quiet-between nothing = let i = are-sections v .0 in quiet-open nothing 1 i refl (rw (header-first v) (quiet-title nothing 1 i (header-first v)))
     quiet-between (headed t) = quiet-headed t
     quiet-between (middle t h n) = quiet-middle t h n
-    quiet-between finished = quiet-end finished refl
+    quiet-between (finished t) = quiet-end (finished t) refl
 
     pub data Ending (st : State) : Type 0 where
       quietly : Quiet st → Ending st

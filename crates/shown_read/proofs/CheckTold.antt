@@ -8,6 +8,7 @@ use borrow.Author.Tests.{le-ltb, ne-eqb}
 use lib.Dec.{eqb}
 use lib.IntN.{ℤ}
 use lib.ListN.{length}
+use Rattle.rows.specs.RowKinds.{leadsComponent}
 use Rattle.text.specs.Lines.{linesOf}
 use Rattle.law.specs.Values.{Rec}
 use Rattle.law.specs.Layouts.{typesOf}
@@ -18,7 +19,6 @@ use Rattle.order.specs.Automaton.{start, accepting, isAmong, repeats, noted}
 use Rattle.order.specs.declared.State.{State}
 use Rattle.law.specs.Answers.{limit, reply}
 use Rattle.walk.specs.Walks.{Trace}
-use Rattle.names.specs.Names.{leadsComponent}
 use Rattle.read.specs.Replies.{endedBy, surveyed, checkReply}
 use Rattle.law.specs.declared.Reply.{Reply}
 use Rattle.shown_read.specs.Told.{says, wrong, Told, ended, broken, afterNothing, afterRecord, goOn, toldFrom}

@@ -7,7 +7,7 @@ use lib.IntN.{pos}
 use Rattle.law.specs.Bytes.{permitted, allOf, begins, ascii}
 use Rattle.text_fields.specs.FirstField.{span, endsWell, bareAt, closedAt, quotedAt, fieldAt, fieldOf}
 use Rattle.text_fields.specs.Fields.{fieldsIn, fieldsOf}
-use Rattle.number.specs.Numbers.{digitHere, judge, decimals, whole, body, readNumber}
+use Rattle.number.specs.Numbers.{digitHere, toCount, decimals, whole, body, readNumber}
 use Rattle.number.specs.Integers.{digits, unsigned, readInteger}
 use Rattle.law.specs.Dates.{datePieces, isTwo, fitsIn, isDate}
 use Rattle.law.specs.Values.{Value, number, word, text, Rec}
@@ -44,7 +44,7 @@ pub library :
     (told (ascii "# made by hand" ∷ ascii ".header" ∷ ascii "LIBRARY_FILE 3.0 s 2024/05/06.07:08:09 1" ∷ ascii ".END_HEADER" ∷ [] ∷ [])
     ≡ ended (of 10 [] ∷ of 11 (word 2 ∷ number (pos 300_000) ∷ text (ascii "s") ∷ text (ascii "2024/05/06.07:08:09") ∷ number (pos 1) ∷ []) ∷ of 19 [] ∷ []) (Between (Headed Library)))
     × (accepting (Between (Headed Library)) ≡ true)
-unfolding toldFrom lineSays saidAt lineAs begins allOf permitted fieldsOf fieldsIn fieldOf fieldAt bareAt endsWell span keywordOf keyFrom folded sameBytes wordAt placeOf wordsOf sections sectionNames kindAt sectionOf lineOf roleOf layoutOf typesOf keyKind dataKind mayStand mayOpen shapeOf advance wellFormed fitsAll fits goodText isEmpty meaning kept within readFields readEach readField readNumber body whole decimals judge digitHere readInteger unsigned digits isDate fitsIn isTwo datePieces namesAComponent
+unfolding toldFrom lineSays saidAt lineAs begins allOf permitted fieldsOf fieldsIn fieldOf fieldAt bareAt endsWell span keywordOf keyFrom folded sameBytes wordAt placeOf wordsOf sections sectionNames kindAt sectionOf lineOf roleOf layoutOf typesOf keyKind dataKind mayStand mayOpen shapeOf advance wellFormed fitsAll fits goodText isEmpty meaning kept within readFields readEach readField readNumber body whole decimals toCount digitHere readInteger unsigned digits isDate fitsIn isTwo datePieces namesAComponent
 library = (refl, refl)
 
 -- refused: data before the header, 5; a blank line inside it, 5; a keyword of no section, 5; an open quote, 4; too many fields, 6

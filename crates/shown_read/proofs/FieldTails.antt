@@ -6,6 +6,7 @@ use mathlib.Core.Option.{Option, none, some}
 use mathlib.Core.Bool.{Bool, true, false, cond}
 use native.Mathlib.Omega.{arith}
 use lib.ListN.{length, take, drop}
+use Rattle.basics.proofs.Bools.{none-some}
 use Rattle.law.specs.Bytes.{permitted, allOf, begins}
 use Rattle.law.specs.Fields.{Field, field}
 use Rattle.text_fields.specs.FirstField.{fieldOf}
@@ -16,7 +17,7 @@ use Rattle.text_fields.proofs.FieldSpelling.{sound-in, fields-complete}
 use Rattle.form.specs.Compare.{folded}
 use Rattle.form.specs.Reading.{Line, free, bad, keyLine, dataLine, byFirst, byFields, lineAs}
 use Rattle.line_rows.specs.LineKinds.{behind}
-use Rattle.line_rows.proofs.LookLaws.{got-lies, none-some, some-before}
+use Rattle.line_rows.proofs.LookLaws.{got-lies, some-before}
 
 -- from the place m on, a line has the fields fs
 pub record From (s : List ℕ) (m : ℕ) (fs : List Field) : Type 0 where

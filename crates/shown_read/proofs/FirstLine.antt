@@ -7,12 +7,12 @@ use mathlib.Core.Bool.{false}
 use native.Mathlib.Omega.{arith}
 use native.Mathlib.Decide.{decLt}
 use lib.ListN.{length, take}
+use Rattle.basics.proofs.Bools.{not-both}
 use Rattle.law.specs.Lines.{File}
 use Rattle.law.specs.Values.{Rec}
 use Rattle.law.specs.declared.Rules.{Rules}
 use Rattle.order.specs.Automaton.{start, accepting}
 use Rattle.order.specs.declared.State.{State}
-use Rattle.shown_lists.proofs.Basics.{not-both}
 use Rattle.shown_read.specs.Told.{Told, ended, broken, toldFrom}
 use Rattle.law.specs.Files.{LinesSay, Mendable}
 use Rattle.shown_read.proofs.Readings.{Breaks, breaks-told, told-through, told-breaks, breaks-within, still-breaks, breaks-before, through-part}

@@ -3,19 +3,17 @@ use Prim.Native.Nat.{ℕ}
 use mathlib.Core.Path.{_≡_, refl}
 use mathlib.Core.List.{List, [], _∷_}
 use mathlib.Core.Option.{Option, none, some}
-use mathlib.Core.Bool.{Bool, true, false, cond}
+use mathlib.Core.Bool.{Bool, true, false, cond, false≢true}
 use native.Mathlib.Omega.{arith}
 use borrow.Author.Tests.{eqb-true}
+use Rattle.basics.proofs.Bools.{cond-both}
+use Rattle.basics.proofs.Lists.{all-complete}
 use Rattle.law.specs.Bytes as by
 use Rattle.law.specs.Bytes.{permitted, isSpace, All, allOf, begins}
 use Rattle.law.specs.Fields.{Field, field, Spelled, end, space}
-use Rattle.text_fields.specs.Looks.{lookOf}
 use Rattle.law.specs.Lines.{Free, blank, comment}
 use Rattle.text_fields.specs.Fields.{fieldsOf}
-use Rattle.text.proofs.Lists.{all-complete}
 use Rattle.text_fields.proofs.FieldSpelling.{fields-sound, fields-complete}
-use Rattle.text_fields.proofs.LookSpelling.{free-sound}
-use Rattle.number.proofs.Tests.{cond-both}
 use Rattle.form.specs.Compare.{folded}
 use Rattle.form.specs.Reading.{Line, free, bad, keyLine, dataLine, byFirst, byFields, lineAs}
 use Rattle.shown_spelling.proofs.BareBytes.{all-map}
@@ -47,6 +45,12 @@ pick-other : (b : Bool) (x y : Line) → Other x → Other y → Other (cond b x
 pick-other true x y p q = p
 pick-other false x y p q = q
 
+-- # in front makes a comment
+hashed : (l : List ℕ) → begins 35 l ≡ true → Free l
+unfolding begins
+hashed [] h = absurd (false≢true h)
+hashed (b ∷ l) h = rw (eqb-true b 35 h) comment
+
 -- spaces alone have no field
 no-field : {s : List ℕ} → Spelled [] s → All isSpace s
 no-field end = by.none
@@ -59,11 +63,11 @@ module _ {l : List ℕ} where
   by-fields (field false s ∷ fs) r e = absurd (pick-other (begins 46 s) (keyLine (folded s) fs) (dataLine (field false s ∷ fs)) not-key not-data e)
 
   pub line-free : lineAs l ≡ free → Free l
-  unfolding lineAs lookOf
+  unfolding lineAs
   line-free = go (begins 35 l) (allOf permitted l) (fieldsOf l) refl refl
     where
       go : (h c : Bool) (o : Option (List Field)) → begins 35 l ≡ h → fieldsOf l ≡ o → cond h free (cond c (byFields o) (bad 3)) ≡ free → Free l
-      go true c o i f e = free-sound l (rw i)
+      go true c o i f e = hashed l i
       go false true none i f e = absurd (not-bad e)
       go false true (some fs) i f e = by-fields fs (fields-sound l fs f) e
       go false false o i f e = absurd (not-bad e)

@@ -7,9 +7,12 @@ use mathlib.Core.Bool.{Bool, true, false, cond, not, _&&_, _||_, false≢true}
 use native.Mathlib.Omega.{arith}
 use lib.Dec.{leb, eqb, eqb·suc-zero, eqb·suc-suc}
 use borrow.Author.Tests.{leb-true}
+use Rattle.rows.proofs.EachKind.{each-kind}
+use Rattle.basics.proofs.Tables.{below-all}
+use Rattle.basics.proofs.Bools.{both, other, not-both, none-some}
 use Rattle.law.specs.Sections.{Shape, header, outline, component, keepout, listing, placements, SectionForm, nth, sections, sectionAt}
 use Rattle.law.specs.Kinds as role
-use Rattle.law.specs.Kinds.{kindAt, sectionOf, lineOf, Role, opening, point, unknown, dataRole, roleIn, roleBy, roleOf}
+use Rattle.law.specs.Kinds.{kindAt, sectionOf, lineOf, Role, opening, point, unknown, dataRole, roleIn, roleBy, roleOf, lastKind}
 use Rattle.law.specs.Layouts.{Front, keyword, prop, plain, Layout, ownerField, openWord, closeWord, frontOf, dataLayout, lineIn, lineBy, layoutOf, typesOf}
 use Rattle.law.specs.declared.Rules.{Rules}
 use Rattle.law.specs.declared.Rules.the-variants.{Idf3}
@@ -20,9 +23,7 @@ use Rattle.order.specs.declared.Phase.{Phase}
 use Rattle.order.specs.declared.Phase.the-variants.{AwaitTitle, AwaitName, HeaderFull, AwaitLead, InPoints, InProps, InList, AwaitPart, AwaitPosition}
 use Rattle.order.specs.declared.State.{State}
 use Rattle.order.specs.declared.State.the-variants.{Between as between, Inside as inside}
-use Rattle.shown_lists.proofs.Basics.{both, other, not-both, at-each}
 use Rattle.shown_lists.proofs.Roles.{isSection, isRole-true, role-known}
-use Rattle.shown_spelling.proofs.Logic.{none-some}
 
 -- a keyword opens and closes a section, PROP begins a property, nothing stands before other data
 abbrev pub frontAt : Role → ℕ → Front
@@ -136,7 +137,7 @@ zero-unknown Idf3 = refl
 -- a kind with a role is of the section that it was made with
 made-section : (v : Rules) (s n : ℕ) → n ≤ 9 → isSection v (sectionOf v (kindAt v s n)) ≡ true → isSection v s ≡ true
 unfolding kindAt sectionOf
-made-section Idf3 s n h = go (leb (10 * s + n) 159)
+made-section Idf3 s n h = go (leb (10 * s + n) lastKind)
   where
     go : (b : Bool) → isSection Idf3 (cond b ((10 * s + n) / 10) 0) ≡ true → isSection Idf3 s ≡ true
     go true i = let e : (10 * s + n) / 10 ≡ s = omega arith in rw e at i
@@ -160,11 +161,7 @@ labelled v k = not (isRole (roleOf v k) point) || integerFirst (typesOf v k)
 
 all-labelled : (v : Rules) (k : ℕ) → labelled v k ≡ true
 unfolding roleOf typesOf layoutOf sectionOf lineOf sections
-all-labelled Idf3 k = go (leb k 159) refl
-  where
-    go : (b : Bool) → leb k 159 ≡ b → labelled Idf3 k ≡ true
-    go true e = at-each (labelled Idf3) 160 k refl (omega (arith, leb-true k 159 e))
-    go false e = rw e
+all-labelled Idf3 = each-kind (labelled Idf3) refl (λ k e. rw e)
 
 pub point-labelled : (v : Rules) (k : ℕ) → roleOf v k ≡ point → integerFirst (typesOf v k) ≡ true
 point-labelled v k e = other (not (isRole (roleOf v k) point)) _ (rw e) (all-labelled v k)

@@ -8,6 +8,8 @@ use native.Mathlib.Omega.{arith}
 use lib.Dec.{eqb}
 use lib.IntN.{ℤ}
 use borrow.Author.Tests.{not-true}
+use Rattle.basics.proofs.Bytes.{bytes-true}
+use Rattle.basics.proofs.Bools.{both, not-both}
 use Rattle.law.specs.Fields.{Field, field}
 use Rattle.law.specs.Lines.{Free}
 use Rattle.number.specs.Numbers.{digitHere}
@@ -31,7 +33,7 @@ use Rattle.line_rows.specs.LineKinds.{isProp}
 use Rattle.law.specs.Records.{shapeOf, typeIn, Named}
 use Rattle.order.specs.Marks.{pointOf}
 use Rattle.order.specs.Places.{lineAt, dataKind, keyKind}
-use Rattle.order.specs.Automaton.{isRole, typeAt, standsIn, mayStand, moved, advance, judge}
+use Rattle.order.specs.Automaton.{isRole, typeAt, standsIn, mayStand, moved, advance, admit}
 use Rattle.order.specs.declared.Phase.{Phase}
 use Rattle.order.specs.declared.Phase.the-variants.{AwaitTitle, AwaitName, HeaderFull, AwaitLead, InPoints, InProps, InList, AwaitPart, AwaitPosition}
 use Rattle.order.specs.declared.Stage.{Stage}
@@ -40,12 +42,10 @@ use Rattle.order.specs.declared.State.the-variants.{Between as between, Inside 
 use Rattle.order.specs.declared.Reason.the-variants.{Misplaced as misplaced, Unfit as unfit}
 use Rattle.order.specs.declared.Outcome.the-variants.{Next as next, Refused as stops}
 use Rattle.order.proofs.Steps.{advance-is}
-use Rattle.shown_lists.proofs.Basics.{both, not-both}
 use Rattle.shown_lists.proofs.Roles.{isSome, isSection, isRole-true, role-known}
 use Rattle.shown_lists.proofs.FirstLine.{taken}
 use Rattle.shown_lists.proofs.ByPlace.{kind-by, kind-by-place}
 use Rattle.law.specs.RecordSpelling.{asText, asReference, asDate, asInteger, asNumber, asWord, SpellsFields, none as noFields, more, SpellsRecord, asLine}
-use Rattle.form.proofs.CompareLaws.{same-eq}
 use Rattle.shown_spelling.proofs.ValueSpelling.{values-sound}
 use Rattle.shown_spelling.proofs.LineSpelling.{Looks, line-looks}
 use Rattle.shown_spelling.proofs.KeywordLaws.{IsSection, keyword-at, section-named}
@@ -71,7 +71,7 @@ advanced v st t r h = go (mayStand v st (r .kind)) (wellFormed (under v (typeAt 
 prop-no-integer : {z : ℤ} (s : List ℕ) → SpellsInteger z s → sameBytes propWord s ≡ true → ⊥
 unfolding readInteger unsigned digitHere
 prop-no-integer {z} s r h =
-    let e : s ≡ propWord = sym (same-eq propWord s h) in
+    let e : s ≡ propWord = sym (bytes-true propWord s h) in
     let i : readInteger propWord ≡ Whole (record { 0 = z }) = integer-complete (rw e at r) in
     let y : _≡_ {A = ℕ} 0 1 = cc in
     omega arith
@@ -138,7 +138,7 @@ module _ (v : Rules) (r : Rec) where
       let e : lineAt (shapeOf v s) p b ≡ some (w .line) = sym (same-line its b c q i (shapeOf v s) p (both (eqb (sectionOf v (r .kind)) s) _ m .1)) ∙ w .given in
       rw e (sym (w .kind-is))
 
-  module _ (used : List Named) (st t : State) (l : List ℕ) (m : mayStand v st (r .kind) ≡ true) (j : judge v used st r ≡ next t)
+  module _ (used : List Named) (st t : State) (l : List ℕ) (m : mayStand v st (r .kind) ≡ true) (j : admit v used st r ≡ next t)
       (fs : List Field) (reads : readFields (under v (typeAt st)) (typesOf v (r .kind)) fs ≡ good (r .values)) where
     known : isRole its unknown ≡ false
     known = stands-known v st (r .kind) m
@@ -194,7 +194,7 @@ module _ (v : Rules) (r : Rec) where
     role-says role.unknown e x = absurd (not-both (rw e) known)
 
 -- a line that spells a record which takes the state to the next is taken to say it
-pub line-complete : (v : Rules) (used : List Named) (st t : State) (r : Rec) (l : List ℕ) → judge v used st r ≡ next t → SpellsRecord (under v (typeAt st)) r l
+pub line-complete : (v : Rules) (used : List Named) (st t : State) (r : Rec) (l : List ℕ) → admit v used st r ≡ next t → SpellsRecord (under v (typeAt st)) r l
     → lineSays v used st l ≡ says r t
 line-complete v used st t r l j (asLine {l = x} e p) =
     let m = advanced v st t r (taken v used st t r j .moves) .stands in

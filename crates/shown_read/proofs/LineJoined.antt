@@ -9,6 +9,8 @@ use borrow.Author.Tests.{eq-eqb, ne-eqb, eqb-true}
 use lib.Dec.{eqb}
 use lib.IntN.{ℤ}
 use lib.ListN.{length}
+use Rattle.rows.specs.Columns.{pointIn, typeInRow}
+use Rattle.rows.specs.declared.Point.{Point}
 use Rattle.law.specs.Fields.{Field}
 use Rattle.text_fields.specs.FirstField.{fieldOf}
 use Rattle.text_fields.specs.Fields.{fieldsOf}
@@ -31,8 +33,7 @@ use Rattle.line_rows.proofs.RowMeaning.{row-means}
 use Rattle.order.specs.Marks.{pointOf}
 use Rattle.law.specs.Records.{typeIn, namesAComponent}
 use Rattle.order.specs.Places.{dataKind, keyKind}
-use Rattle.order.specs.Automaton.{isRole, typeAt, mayStand, moved, stepped, unless, advance, judge}
-use Rattle.order_loops.specs.declared.Point.{Point}
+use Rattle.order.specs.Automaton.{isRole, typeAt, mayStand, moved, stepped, unless, advance, admit}
 use Rattle.order.specs.declared.State.{State}
 use Rattle.order.specs.declared.State.the-variants.{Between as between, Inside as inside}
 use Rattle.order.specs.declared.Outcome.{Outcome}
@@ -40,9 +41,9 @@ use Rattle.order.specs.declared.Outcome.the-variants.{Next as next, Refused as 
 use Rattle.order.proofs.Steps.{advance-stepped, point-only, title-only}
 use Rattle.shown_spelling.proofs.KeywordLaws.{keyword-is}
 use Rattle.shown_spelling.proofs.RecordSpelling.{record-fits}
-use Rattle.walk.specs.Judging.{pointIn, typeInRow, refusedBy, freeBy, movedRow, filledBy, ofKind, dataBy, judgedBy, judged}
+use Rattle.walk.specs.Judging.{refusedBy, freeBy, movedRow, filledBy, ofKind, dataBy, judgedBy, judged}
 use Rattle.walk.specs.declared.Found.the-variants.{Row, Nothing, Refused}
-use Rattle.walk.specs.declared.Judged.{Judged}
+use Rattle.walk.specs.declared.JudgedLine.{JudgedLine}
 use Rattle.shown_read.specs.Told.{Said, nothing, says, wrong, freeIn, saidOf, saidBy, saidAt, saidAs, lineSays}
 use Rattle.shown_read.proofs.Fronts.{stands-known}
 use Rattle.shown_read.proofs.LineSound.{Known, Behind, data-known, key-behind, record-spelled}
@@ -50,21 +51,21 @@ use Rattle.shown_read.proofs.FieldTails.{From, from-start, from-behind,
 use Rattle.shown_read.proofs.RowColumns.{point-in, type-in}
 
 -- a line that says nothing, one with a record, and one that is refused, as they are judged
-pub record Passed (st : State) (j : Judged) : Type 0 where
+pub record Passed (st : State) (j : JudgedLine) : Type 0 where
   pub found : j .found ≡ Nothing
   pub state : j .state ≡ st
 
-pub record Taken (v : Rules) (file : List ℕ) (r : Rec) (t : State) (j : Judged) : Type 0 where
+pub record Taken (v : Rules) (file : List ℕ) (r : Rec) (t : State) (j : JudgedLine) : Type 0 where
   pub found : j .found ≡ Row
   pub state : j .state ≡ t
   pub holds : Holds file (r .kind) (typesOf v (r .kind)) (j .row) (r .values)
 
-pub record Barred (st : State) (n : ℕ) (j : Judged) : Type 0 where
+pub record Barred (st : State) (n : ℕ) (j : JudgedLine) : Type 0 where
   pub found : j .found ≡ Refused n
   pub state : j .state ≡ st
 
 -- a line judged in a state agrees with what it says there
-abbrev pub Joined : Rules → List ℕ → State → Said → Judged → Type 0
+abbrev pub Joined : Rules → List ℕ → State → Said → JudgedLine → Type 0
 Joined v file st nothing j = Passed st j
 Joined v file st (says r t) j = Taken v file r t j
 Joined v file st (wrong n) j = Barred st n j
@@ -79,8 +80,8 @@ free-joined v file (inside g s p) = record { found = refl; state = refl }
 
 module _ (v : Rules) (st : State) where
   -- where no name is used, a record does what it does names aside
-  pub judge-fresh : (r : Rec) → judge v [] st r ≡ advance v st r
-  judge-fresh r = go (namesAComponent v (r .kind)) (advance v st r)
+  pub admit-fresh : (r : Rec) → admit v [] st r ≡ advance v st r
+  admit-fresh r = go (namesAComponent v (r .kind)) (advance v st r)
     where
       go : (b : Bool) (o : Outcome) → unless (b && false) o ≡ o
       go true (next t) = refl
@@ -103,14 +104,14 @@ module _ (v : Rules) (st : State) where
       title-moves d false e = title-only v st k (typeIn its) (typeInRow row) d m e
 
       -- so the row does what the record does
-      pub row-steps : WellFormed (under v (typeAt st)) its → judge v [] st its ≡ stepped v st k (typeInRow row) (pointIn row)
+      pub row-steps : WellFormed (under v (typeAt st)) its → admit v [] st its ≡ stepped v st k (typeInRow row) (pointIn row)
       unfolding stepped
       row-steps w =
-          judge-fresh its ∙ advance-stepped v st its w
+          admit-fresh its ∙ advance-stepped v st its w
           ∙ rw m (point-moves (typeIn its) (isRole (roleOf v k) point) refl ∙ title-moves (pointIn row) (isRole (roleOf v k) title) refl)
 
       moved-joined : WellFormed (under v (typeAt st)) its
-          → Joined v file st (saidOf its (judge v [] st its)) (movedRow st row (stepped v st k (typeInRow row) (pointIn row)))
+          → Joined v file st (saidOf its (admit v [] st its)) (movedRow st row (stepped v st k (typeInRow row) (pointIn row)))
       moved-joined w = rw (row-steps w) (go (stepped v st k (typeInRow row) (pointIn row)))
         where
           go : (o : Outcome) → Joined v file st (saidOf its o) (movedRow st row o)

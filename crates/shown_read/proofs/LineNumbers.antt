@@ -33,7 +33,7 @@ use Rattle.law.specs.declared.FieldType.the-variants.{Text as T, Reference as R
 use Rattle.line_rows.specs.LineKinds.{isProp}
 use Rattle.law.specs.Records.{Named}
 use Rattle.order.specs.Places.{dataKind, keyKind}
-use Rattle.order.specs.Automaton.{typeAt, mayStand, judge}
+use Rattle.order.specs.Automaton.{typeAt, mayStand, admit}
 use Rattle.order.specs.declared.State.{State}
 use Rattle.order.specs.declared.State.the-variants.{Between as between, Inside as inside}
 use Rattle.order.specs.declared.Reason.the-variants.{Misplaced, Unfit, BadLoop, Repeated}
@@ -127,7 +127,7 @@ outcome-numbered r (stops Repeated) = (omega arith, omega arith)
 
 module _ (v : Rules) (used : List Named) (st : State) where
   by-numbered : (k : ℕ) (a : Reply (List Value)) → Low a → Numbered (saidBy v used st k a)
-  by-numbered k (good vs) h = outcome-numbered _ (judge v used st (record { kind = k; values = vs }))
+  by-numbered k (good vs) h = outcome-numbered _ (admit v used st (record { kind = k; values = vs }))
   by-numbered k (refused n) h = (omega arith, omega arith)
 
   at-numbered : (k : ℕ) (fs : List Field) → Numbered (saidAt v used st k fs)

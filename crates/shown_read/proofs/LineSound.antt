@@ -8,6 +8,8 @@ use native.Mathlib.Omega.{arith}
 use borrow.Author.Tests.{leb-true}
 use lib.Dec.{leb}
 use lib.ListN.{drop}
+use Rattle.basics.proofs.Bytes.{bytes-same}
+use Rattle.basics.proofs.Bools.{both, other, not-both, none-some}
 use Rattle.law.specs.Fields.{Field, field}
 use Rattle.law.specs.Lines.{Free}
 use Rattle.law.specs.Values.{Value, Rec}
@@ -24,7 +26,7 @@ use Rattle.form.specs.declared.Keyword.the-variants.{Opening, Closing, Unknown}
 use Rattle.line_rows.specs.LineKinds.{isProp}
 use Rattle.law.specs.Records.{shapeOf, Named}
 use Rattle.order.specs.Places.{pointLine, hasProps, lineAt, kindBy, dataKind, keyKind}
-use Rattle.order.specs.Automaton.{isRole, typeAt, mayStand, judge}
+use Rattle.order.specs.Automaton.{isRole, typeAt, mayStand, admit}
 use Rattle.order.specs.declared.Phase.{Phase}
 use Rattle.order.specs.declared.Phase.the-variants.{AwaitTitle, AwaitName, HeaderFull, AwaitLead, InPoints, InProps, InList, AwaitPart, AwaitPosition}
 use Rattle.order.specs.declared.Stage.{Stage}
@@ -32,11 +34,8 @@ use Rattle.order.specs.declared.State.{State}
 use Rattle.order.specs.declared.State.the-variants.{Between as between, Inside as inside}
 use Rattle.order.specs.declared.Outcome.{Outcome}
 use Rattle.order.specs.declared.Outcome.the-variants.{Next as next, Refused as stops}
-use Rattle.shown_lists.proofs.Basics.{both, other, not-both}
 use Rattle.shown_lists.proofs.Tables.{section-at, role-at, laid}
 use Rattle.law.specs.RecordSpelling.{SpellsRecord}
-use Rattle.shown_spelling.proofs.Logic.{none-some}
-use Rattle.shown_spelling.proofs.WordSpelling.{eq-same}
 use Rattle.shown_spelling.proofs.KeywordLaws.{KeywordIs, keyword-is}
 use Rattle.shown_spelling.proofs.RecordSpelling.{record-sound}
 use Rattle.shown_read.specs.Told.{Said, nothing, says, wrong, freeIn, saidOf, saidBy, saidAt, ownFields, saidAs, lineSays}
@@ -155,17 +154,17 @@ module _ (v : Rules) where
   unfolding keyKind
   key-behind w fs (Opening s) i h =
       let k = kind-section v s 0 (omega arith) h in
-      rw (role-at v s 0 k (omega arith), section-at v s 0 k (omega arith), eq-same (46 ∷ openWord s) w (sym (i .1)))
+      rw (role-at v s 0 k (omega arith), section-at v s 0 k (omega arith), bytes-same (46 ∷ openWord s) w (sym (i .1)))
   key-behind w fs (Closing s) i h =
       let k = kind-section v s 9 (omega arith) h in
-      rw (role-at v s 9 k (omega arith), section-at v s 9 k (omega arith), eq-same (46 ∷ closeWord s) w (sym (i .1)))
+      rw (role-at v s 9 k (omega arith), section-at v s 9 k (omega arith), bytes-same (46 ∷ closeWord s) w (sym (i .1)))
   key-behind w fs Unknown i h = zero-not h
 
   -- What an answer says of the line
   module _ (used : List Named) (st : State) (l : List ℕ) where
     abbrev Means : Said → Type 0
     Means nothing = (g : Stage) × (st ≡ between g) × Free l
-    Means (says r t) = SpellsRecord (under v (typeAt st)) r l × (judge v used st r ≡ next t)
+    Means (says r t) = SpellsRecord (under v (typeAt st)) r l × (admit v used st r ≡ next t)
     Means (wrong n) = Unit {0}
 
     pub record-spelled : (k : ℕ) (gs : List Field) (vs : List Value) → Known k → Behind k (lineAs l) gs → readFields (under v (typeAt st)) (typesOf v k) gs ≡ good vs
@@ -180,7 +179,7 @@ module _ (v : Rules) where
     unfolding saidAt
     at-means k gs b = go (mayStand v st k) (readFields (under v (typeAt st)) (typesOf v k) gs) refl refl
       where
-        judged : (r : Rec) (o : Outcome) → judge v used st r ≡ o → SpellsRecord (under v (typeAt st)) r l → Means (saidOf r o)
+        judged : (r : Rec) (o : Outcome) → admit v used st r ≡ o → SpellsRecord (under v (typeAt st)) r l → Means (saidOf r o)
         judged r (next t) j p = (p, j)
         judged r (stops e) j p = tt
 
@@ -206,7 +205,7 @@ module _ (v : Rules) where
     line-means = as-means (lineAs l) refl
 
     -- a line that is taken to say a record spells it, and the record takes the state to the next
-    pub line-sound : (r : Rec) (t : State) → lineSays v used st l ≡ says r t → SpellsRecord (under v (typeAt st)) r l × (judge v used st r ≡ next t)
+    pub line-sound : (r : Rec) (t : State) → lineSays v used st l ≡ says r t → SpellsRecord (under v (typeAt st)) r l × (admit v used st r ≡ next t)
     line-sound r t e = subst Means e line-means
 
     -- a line that is taken to say nothing is free, and no section is open

@@ -19,7 +19,7 @@ use Rattle.order.specs.declared.State.the-variants.{Between as between, Inside 
 use Rattle.order.specs.declared.Outcome.{Outcome}
 use Rattle.order.specs.declared.Outcome.the-variants.{Next as next, Refused as stops}
 use Rattle.shown_read.specs.Told.{Said, nothing, says, wrong, freeIn, saidOf, saidBy, saidAt, ownFields, saidAs, lineSays}
-use Rattle.shown_read.proofs.LineJoined.{judge-fresh}
+use Rattle.shown_read.proofs.LineJoined.{admit-fresh}
 
 -- what a line says, after components with these names
 abbrev pub unlessUsed : Rules → List Named → Said → Said
@@ -34,7 +34,7 @@ module _ (v : Rules) (used : List Named) (st : State) where
   of-used r b (stops x) e = refl
 
   by-used : (k : ℕ) (a : Reply (List Value)) → saidBy v used st k a ≡ unlessUsed v used (saidBy v [] st k a)
-  by-used k (good vs) = let r : Rec = record { kind = k; values = vs } in rw (judge-fresh v st r) (of-used r (repeats v used r) (advance v st r) refl)
+  by-used k (good vs) = let r : Rec = record { kind = k; values = vs } in rw (admit-fresh v st r) (of-used r (repeats v used r) (advance v st r) refl)
   by-used k (refused n) = refl
 
   at-used : (k : ℕ) (fs : List Field) → saidAt v used st k fs ≡ unlessUsed v used (saidAt v [] st k fs)

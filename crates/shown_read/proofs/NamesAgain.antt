@@ -2,19 +2,22 @@
 use Prim.Native.Nat.{ℕ, _+_, _≤_}
 use mathlib.Core.Path.{_≡_, refl, sym, _∙_}
 use mathlib.Core.List.{List, [], _∷_}
-use mathlib.Core.Bool.{Bool, true, false, cond, _&&_, _||_}
+use mathlib.Core.Bool.{Bool, true, false, cond, _&&_, _||_, or-false}
 use native.Mathlib.Omega.{arith}
 use borrow.Author.Tests.{lt-ltb, le-ltb}
 use lib.IntN.{ℤ}
+use Rattle.rows.specs.RowKinds.{leadsComponent}
+use Rattle.rows_texts.specs.Names.{sameNames}
+use Rattle.basics.proofs.Bytes.{bytes-true, bytes-self}
+use Rattle.basics.proofs.Bools.{not-both}
 use Rattle.law.specs.Words.{sameBytes}
 use Rattle.law.specs.Records.{Named}
 use Rattle.order.specs.Automaton.{sameName, isAmong}
 use Rattle.order.specs.declared.State.{State}
-use Rattle.shown_lists.proofs.Basics.{not-both, bytes-true, bytes-self}
 use Rattle.walk.specs.Walks as walk
 use Rattle.walk.specs.Walks.{Trace, traceOf}
 use Rattle.rows_texts.specs.Texts.{sameTexts}
-use Rattle.names.specs.Names.{sameNames, leadsComponent, usedIn, isUsed, repeatIn}
+use Rattle.names.specs.Names.{usedIn, isUsed, repeatIn}
 use Rattle.shown_read.proofs.RowColumns.{nameAt}
 use Rattle.shown_read.proofs.Traced.{Follows, done, stop, skip, row, trace-follows}
 
@@ -39,10 +42,6 @@ bytes-turned a b = go (sameBytes a b) (sameBytes b a) refl refl
 names-turned : (file : List ℕ) (x y : List ℤ) → sameNames file x file y ≡ sameName (nameAt file y) (nameAt file x)
 unfolding sameNames sameTexts
 names-turned file x y = rw (bytes-turned (nameAt file x .geometry) (nameAt file y .geometry), bytes-turned (nameAt file x .number) (nameAt file y .number))
-
-or-false : (a : Bool) → (a || false) ≡ a
-or-false true = refl
-or-false false = refl
 
 or-turned : (a s u : Bool) → (a || (s || u)) ≡ ((s || a) || u)
 or-turned true true u = refl

@@ -6,6 +6,7 @@ use mathlib.Core.Bool.{Bool, true, false}
 use lib.Dec.{leb}
 use lib.IntN.{natAbs}
 use borrow.Author.Tests.{not-true}
+use Rattle.basics.proofs.Bools.{both, none-some}
 use Rattle.law.specs.Fields.{Field}
 use Rattle.law.specs.Limits.{largestLength}
 use Rattle.law.specs.Values.{Value, Rec}
@@ -17,12 +18,10 @@ use Rattle.law.specs.declared.FileType.{FileType}
 use Rattle.law.specs.declared.FieldType.{FieldType}
 use Rattle.law.specs.declared.FieldType.the-variants.{Reference as Ref}
 use Rattle.order.specs.Automaton.{isRole}
-use Rattle.shown_lists.proofs.Basics.{both}
 use Rattle.shown_lists.proofs.Roles.{isRole-true}
 use Rattle.shown_lists.proofs.Tables.{unlaid}
 use Rattle.shown_lists.proofs.Samples.{retype}
 use Rattle.law.specs.RecordSpelling.{SpellsField, asText, asReference, asDate, asInteger, asNumber, asWord, SpellsFields, none as noFields, more, SpellsLine, withKeyword, withProp, asData, SpellsRecord, asLine}
-use Rattle.shown_spelling.proofs.Logic.{none-some}
 use Rattle.shown_spelling.proofs.RecordSpelling.{record-fits}
 
 module _ {v : Rules} {a : FileType} (b : FileType) where

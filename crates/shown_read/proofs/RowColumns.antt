@@ -8,6 +8,12 @@ use borrow.Author.Tests.{leb-true}
 use lib.Dec.{leb}
 use lib.IntN.{ℤ, pos}
 use lib.ListN.{getD, replicate}
+use Rattle.rows.proofs.EachKind.{each-kind}
+use Rattle.rows.specs.RowKinds.{leadsComponent}
+use Rattle.rows.specs.Columns.{columnAt, pointIn, typeInRow, geometryLength, geometryStart, partLength, partStart}
+use Rattle.basics.proofs.Tables.{below-all}
+use Rattle.basics.proofs.Bools.{other, both}
+use Rattle.basics.specs.Integers.{eqZ}
 use Rattle.law.specs.Values.{Value, word, Rec}
 use Rattle.law.specs.Sections.{sections}
 use Rattle.law.specs.Kinds.{sectionOf, lineOf, title, point, roleOf}
@@ -21,17 +27,13 @@ use Rattle.law.specs.Rows.{isNumber, isText, Means, none, aNumber, aWord, aDate
 use Rattle.line_rows.proofs.MeaningLaws.{not-both as number-no-text}
 use Rattle.law.specs.Records.{numOf, wordOf, bytesOf, typeIn, Named, namesAComponent, nameIn}
 use Rattle.order.specs.Marks.{pointOf}
-use Rattle.order_loops.specs.Loops.{eqZ}
 use Rattle.order.specs.Automaton.{isRole}
-use Rattle.shown_lists.proofs.Basics.{other, at-each, both}
 use Rattle.shown_lists.proofs.Tables.{component-fields}
-use Rattle.walk.specs.Judging.{columnAt, pointIn, typeInRow}
 use Rattle.rows_texts.specs.Texts.{textAt}
-use Rattle.names.specs.Names.{leadsComponent}
 
 -- the component in the row of a leading line: the texts of its first two fields
 abbrev pub nameAt : List ℕ → List ℤ → Named
-nameAt file x = record { geometry = textAt file (columnAt x 1) (columnAt x 2); number = textAt file (columnAt x 3) (columnAt x 4) }
+nameAt file x = record { geometry = textAt file (geometryStart x) (geometryLength x); number = textAt file (partStart x) (partLength x) }
 
 -- What the types in front of a layout are
 
@@ -71,11 +73,7 @@ asked v k = (not (isRole (roleOf v k) point) || numbersTo 3 (typesOf v k)) && (n
 
 as-asked : (v : Rules) (k : ℕ) → asked v k ≡ true
 unfolding roleOf typesOf layoutOf sectionOf lineOf sections
-as-asked Idf3 k = go (leb k 159) refl
-  where
-    go : (b : Bool) → leb k 159 ≡ b → asked Idf3 k ≡ true
-    go true e = at-each (asked Idf3) 160 k refl (omega (arith, leb-true k 159 e))
-    go false e = rw e
+as-asked Idf3 = each-kind (asked Idf3) refl (λ k e. rw e)
 
 point-numbers : (v : Rules) (k : ℕ) → isRole (roleOf v k) point ≡ true → numbersTo 3 (typesOf v k) ≡ true
 point-numbers v k e = other (not (isRole (roleOf v k) point)) _ (rw e) (both (not (isRole (roleOf v k) point) || numbersTo 3 (typesOf v k)) _ (as-asked v k) .0)

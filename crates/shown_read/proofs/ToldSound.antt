@@ -5,6 +5,7 @@ use mathlib.Core.List.{List, [], _++_, append-nil}
 use mathlib.Core.Option.{Option, none, some}
 use mathlib.Core.Bool.{Bool, true, false, cond, _&&_}
 use lib.Dec.{eqb}
+use Rattle.basics.proofs.Bools.{both}
 use Rattle.law.specs.Values.{Rec}
 use Rattle.law.specs.Kinds.{sectionOf, Role, opening, closing, title, name, lead, point, prop, entry, part, position, roleOf}
 use Rattle.law.specs.Fits.{under, wellFormed, WellFormed}
@@ -14,7 +15,7 @@ use Rattle.law.specs.Records.{shapeOf, manyLoops, Named}
 use Rattle.order.specs.Marks.{pointOf}
 use Rattle.order_loops.specs.Loops.{loopAfter, complete}
 use Rattle.order.specs.Stages.{mayOpen, fileOf}
-use Rattle.order.specs.Automaton.{start, startOf, isRole, if-fit, afterPoint, onlyIf, atPhase, advance, accepting, through, run, judge}
+use Rattle.order.specs.Automaton.{start, startOf, isRole, if-fit, afterPoint, onlyIf, atPhase, advance, accepting, through, run, admit, typeAt}
 use Rattle.order.specs.declared.Stage.{Stage}
 use Rattle.order_loops.specs.declared.LoopState.{LoopState}
 use Rattle.order.specs.declared.Phase.{Phase}
@@ -24,9 +25,8 @@ use Rattle.order.specs.declared.State.the-variants.{Between as between, Inside 
 use Rattle.order.specs.declared.Reason.the-variants.{Misplaced as misplaced}
 use Rattle.order.specs.declared.Outcome.{Outcome}
 use Rattle.order.specs.declared.Outcome.the-variants.{Next as next, Refused as stops}
-use Rattle.shown_lists.proofs.Basics.{both}
 use Rattle.shown_lists.proofs.Roles.{isRole-true}
-use Rattle.shown_lists.proofs.FirstLine.{taken, accepted-exactly}
+use Rattle.shown_lists.proofs.FirstLine.{taken, accepted-exactly, run-typed}
 use Rattle.law.specs.LineSpelling.{Where, outside, inside as within, leadsTo, SpellsLines, end, free, line}
 use Rattle.shown_read.specs.Told.{ended, toldFrom}
 use Rattle.law.specs.Files.{titled, LinesSay}
@@ -97,7 +97,7 @@ module _ (v : Rules) where
       go true = goes-in r (wellFormed (under v (fileOf g)) r) g s p
       go false = tt
 
-  pub leads-where : (used : List Named) (st t : State) (r : Rec) → judge v used st r ≡ next t → leadsTo (roleOf v (r .kind)) (whereOf st) ≡ whereOf t
+  pub leads-where : (used : List Named) (st t : State) (r : Rec) → admit v used st r ≡ next t → leadsTo (roleOf v (r .kind)) (whereOf st) ≡ whereOf t
   leads-where used st t r j = subst (Goes (leadsTo (roleOf v (r .kind)) (whereOf st))) (taken v used st t r j .moves) (goes st r)
 
   -- The records run through
@@ -129,3 +129,7 @@ module _ (v : Rules) where
   -- lines that are told to the end, where they may end, say the list
   pub told-sound : (ls : List (List ℕ)) (rs : List Rec) (en : State) → toldFrom v [] start ls ≡ ended rs en → accepting en ≡ true → LinesSay v rs ls
   told-sound ls rs en e a = through-says (told-through v [] start ls rs en e) a
+
+  -- and the state there has its type
+  pub told-typed : (ls : List (List ℕ)) (rs : List Rec) (en : State) → toldFrom v [] start ls ≡ ended rs en → accepting en ≡ true → typeAt en ≡ titled rs
+  told-typed ls rs en e a = run-typed v (told-sound ls rs en e a .permitted) (through-runs (told-through v [] start ls rs en e))

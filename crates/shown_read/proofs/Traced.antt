@@ -9,8 +9,8 @@ use lib.Dec.{ltb}
 use lib.IntN.{ℤ}
 use lib.ListN.{length, take, drop, length-drop}
 use lib.Seq.{drop-drop}
+use Rattle.basics.proofs.Lists.{at-end}
 use Rattle.text.specs.Lines.{lineEnd, linesOf}
-use Rattle.text.proofs.Lists.{at-end}
 use Rattle.text.proofs.LineLaws.{line-inside, lines-none, lines-first}
 use Rattle.law.specs.Values.{Rec}
 use Rattle.law.specs.Layouts.{typesOf}
@@ -21,7 +21,7 @@ use Rattle.order.specs.Automaton.{start}
 use Rattle.order.specs.declared.State.{State}
 use Rattle.walk.specs.Walks as walk
 use Rattle.walk.specs.Walks.{begun, lineIn, turnOf, Trace, traceBy, traceAt, traceOf}
-use Rattle.walk.specs.declared.Judged.{Judged}
+use Rattle.walk.specs.declared.JudgedLine.{JudgedLine}
 use Rattle.walk.specs.declared.Walk.{Walk}
 use Rattle.walk.proofs.WalkLaws.{trace-end, trace-step}
 use Rattle.shown_read.specs.Told.{Said, nothing, says, wrong, lineSays}
@@ -39,7 +39,7 @@ pub data Follows (file : List ℕ) : State → List (List ℕ) → ℕ → Trace
 
 module _ (file : List ℕ) where
   -- one turn in front of others
-  follows-one : (st : State) (l : List ℕ) (ls : List (List ℕ)) (k : ℕ) (j : Judged) (t : Trace) (x : Said) → lineSays Idf3 [] st l ≡ x → Joined Idf3 file st x j
+  follows-one : (st : State) (l : List ℕ) (ls : List (List ℕ)) (k : ℕ) (j : JudgedLine) (t : Trace) (x : Said) → lineSays Idf3 [] st l ≡ x → Joined Idf3 file st x j
       → Follows file (j .state) ls (k + 1) t → Follows file st (l ∷ ls) k (traceBy (j .found) k (j .row) t)
   follows-one st l ls k j t nothing e p f = rw (p .found) (skip e (subst (λ (u : State). Follows file u ls (k + 1) t) (p .state) f))
   follows-one st l ls k j t (says r v) e p f = rw (p .found) (row e (p .holds) (subst (λ (u : State). Follows file u ls (k + 1) t) (p .state) f))

@@ -14,7 +14,7 @@ use Rattle.law.specs.declared.Rules.{Rules}
 use Rattle.line_rows.specs.LineKinds.{isProp}
 use Rattle.law.specs.Records.{Named}
 use Rattle.order.specs.Places.{dataKind, keyKind}
-use Rattle.order.specs.Automaton.{isRole, refusalNumber, typeAt, mayStand, judge, noted}
+use Rattle.order.specs.Automaton.{isRole, refusalNumber, typeAt, mayStand, admit, noted}
 use Rattle.order.specs.declared.State.{State}
 use Rattle.order.specs.declared.State.the-variants.{Between as between, Inside as inside}
 use Rattle.order.specs.declared.Outcome.{Outcome}
@@ -37,7 +37,7 @@ saidOf r (next t) = says r t
 saidOf r (stops e) = wrong (refusalNumber e 5)
 
 abbrev pub saidBy : Rules → List Named → State → ℕ → Reply (List Value) → Said
-saidBy v used st k (good vs) = let r : Rec = record { kind = k; values = vs } in saidOf r (judge v used st r)
+saidBy v used st k (good vs) = let r : Rec = record { kind = k; values = vs } in saidOf r (admit v used st r)
 saidBy v used st k (refused n) = wrong n
 
 -- a line of kind k: 5 where it cannot stand, 6 for the number of its fields, then each field by 7 to 10

@@ -2,11 +2,12 @@
 use Prim.Native.Nat.{ℕ, zero, suc, _+_}
 use mathlib.Core.Path.{_≡_, refl, sym, subst}
 use mathlib.Core.List.{List, _++_}
-use mathlib.Core.Bool.{Bool, true, false, _&&_, false≢true}
+use mathlib.Core.Bool.{Bool, true, false, _&&_, false≢true, and-false}
 use borrow.Author.Tests.{eqb-true}
 use lib.Dec.{eqb}
 use lib.IntN.{ℤ}
 use lib.ListN.{getD, replicate}
+use Rattle.basics.specs.Integers.{eqZ}
 use Rattle.law.specs.Values.{Value, Rec}
 use Rattle.law.specs.Fits.{meaning}
 use Rattle.law.specs.Layouts.{typesOf}
@@ -16,7 +17,6 @@ use Rattle.law.specs.declared.FieldType.{FieldType}
 use Rattle.law.specs.declared.FieldType.the-variants.{Text as T, Reference as Ref, Date as D, Integer as I, Number as N, Word as W}
 use Rattle.law.specs.Rows.{isText, isNumber, Means, none, aNumber, aWord, aDate, aText, Holds}
 use Rattle.line_rows.proofs.MeaningLaws.{not-both}
-use Rattle.order_loops.specs.Loops.{eqZ}
 use Rattle.same.specs.Ignoring.{nothing, ignoredAt}
 use Rattle.same.specs.SameRows.{holdsBytes, countsAs, sameField, agreesAt, sameFrom, sameRow}
 use Rattle.shown_same.proofs.Values.{sameValues, sameRec}
@@ -26,10 +26,6 @@ none-of : (n i : ℕ) → getD (replicate n false) i false ≡ false
 none-of zero i = refl
 none-of (suc n) zero = refl
 none-of (suc n) (suc i) = none-of n i
-
-and-false : (a : Bool) → (a && false) ≡ false
-and-false true = refl
-and-false false = refl
 
 none-ignored : (k i : ℕ) → ignoredAt nothing k i ≡ false
 unfolding ignoredAt

@@ -8,6 +8,7 @@ use native.Mathlib.Omega.{arith}
 use borrow.Author.Tests.{eqb-true}
 use lib.Dec.{eqb}
 use lib.ListN.{length}
+use Rattle.read.proofs.ReplyLaws.{accepted-small}
 use Rattle.law.specs.Values.{Rec}
 use Rattle.law.specs.declared.Rules.the-variants.{Idf3}
 use Rattle.law.specs.Answers.{limit}
@@ -18,7 +19,6 @@ use Rattle.same.specs.Ignoring.{nothing}
 use Rattle.same.specs.SameLists.{sameFiles}
 use Rattle.same.specs.Verdicts.{refusedAs, foundSame, sameReply}
 use Rattle.law.specs.declared.Verdict.{Verdict}
-use Rattle.same.proofs.VerdictLaws.{accepted-small}
 use Rattle.shown_same.proofs.Values.{sameRecs, recs-true, recs-self}
 use Rattle.shown_same.proofs.Lists.{files-are}
 

@@ -4,10 +4,12 @@ use mathlib.Core.List.{List, [], _∷_}
 use mathlib.Core.Bool.{Bool, true, false, _&&_, false≢true}
 use borrow.Author.Tests.{eqb-true}
 use lib.Dec.{eqb}
+use Rattle.basics.proofs.Bytes.{bytes-true, bytes-self}
+use Rattle.basics.proofs.Integers.{eqZ-true, eqZ-same}
+use Rattle.basics.proofs.Bools.{both, eqb-self}
+use Rattle.basics.specs.Integers.{eqZ}
 use Rattle.law.specs.Values.{Value, number, word, text, Rec}
 use Rattle.law.specs.Words.{sameBytes}
-use Rattle.order_loops.specs.Loops.{eqZ}
-use Rattle.shown_lists.proofs.Basics.{both, eqb-self, eqZ-true, eqZ-same, bytes-true, bytes-self}
 
 abbrev pub sameValue : Value → Value → Bool
 sameValue (number z) (number y) = eqZ z y

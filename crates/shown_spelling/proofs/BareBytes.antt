@@ -7,9 +7,9 @@ use native.Mathlib.Omega.{arith}
 use borrow.Author.Tests.{ne-eqb, le-leb, leb-true, eqb-true, lt-leb}
 use lib.Dec.{leb, eqb}
 use lib.IntN.{ℤ}
+use Rattle.basics.proofs.Bools.{and-left, and-right}
 use Rattle.law.specs.Bytes as by
 use Rattle.law.specs.Bytes.{permitted, inBare, inQuotes, All}
-use Rattle.text.proofs.Lists.{and-left, and-right}
 use Rattle.law.specs.Numbers.{Digit, Numeral, Decimals, Unsigned, SpellsNumber}
 use Rattle.number.specs.Numbers.{digitHere}
 use Rattle.law.specs.Numbers as num

@@ -7,15 +7,16 @@ use native.Mathlib.Omega.{arith}
 use borrow.Author.Tests.{eqb-true, leb-true, not-true, not-false}
 use lib.Dec.{leb}
 use lib.IntN.{ℤ, pos, negsuc, natAbs}
+use Rattle.basics.proofs.Bytes.{bytes-true}
+use Rattle.basics.proofs.Lists.{all-sound}
+use Rattle.basics.proofs.Bools.{and-left, and-right, neither}
 use Rattle.law.specs.Bytes.{All, allOf, begins}
 use Rattle.law.specs.Fields.{Field, field}
-use Rattle.text.proofs.Lists.{and-left, and-right, all-sound}
 use Rattle.law.specs.Limits.{mostDecimals, largestLength, largestInteger}
 use Rattle.law.specs.Numbers as num
 use Rattle.law.specs.Numbers.{SpellsNumber}
 use Rattle.law.specs.Printing.{printedCount, printedInteger}
 use Rattle.law.specs.Dates.{isDate}
-use Rattle.number.proofs.Tests.{or-false}
 use Rattle.number_print.proofs.PrintSpelling.{digit, count-spells, integer-spells}
 use Rattle.law.specs.Values.{Value, number, word, text}
 use Rattle.law.specs.Words.{wordsOf, wordAt}
@@ -30,7 +31,6 @@ use Rattle.law.specs.declared.FieldType.{FieldType}
 use Rattle.law.specs.declared.FieldType.the-variants.{Text as T, Reference as Ref, Date as D, Integer as I, Number as N, Word as W}
 use Rattle.law.specs.RecordSpelling.{SpellsField, asText, asReference, asDate, asInteger, asNumber, asWord}
 use Rattle.law.specs.Canonical.{noSpace, needsQuotes, versionText, printedNumber, canonicalField}
-use Rattle.form.proofs.CompareLaws.{same-eq}
 use Rattle.shown_spelling.proofs.BareBytes.{tight, safe, all-zip, tight-text, tight-number, safe-number, tight-integer, safe-integer, tight-date, safe-date}
 use Rattle.shown_spelling.proofs.Tables.{words-stand, word-listed}
 
@@ -57,9 +57,9 @@ text-writes s h = go (needsQuotes s) refl
     go : (t : Bool) → needsQuotes s ≡ t → Writes (field t s)
     go true e = asQuoted (all-sound textByte s h)
     go false e =
-        let p = or-false (isEmpty s) _ e in
-        let q = or-false (not (allOf noSpace s)) _ (p .1) in
-        let r = or-false (begins 35 s) _ (q .1) in
+        let p = neither (isEmpty s) _ e in
+        let q = neither (not (allOf noSpace s)) _ (p .1) in
+        let r = neither (begins 35 s) _ (q .1) in
         asBare (all-zip tight-text (all-sound textByte s h) (all-sound noSpace s (not-false _ (q .0)))) (safe-text s (p .0) (r .0) (r .1))
 
 -- The version
@@ -69,7 +69,7 @@ version-spells Idf3 = num.plain (num.withPoint (num.one (digit 3 (omega arith)))
 -- a text that is held can be written, and is its own meaning
 text-held : (t : FieldType) (s : List ℕ) → goodText t s ≡ true → Writes (field (needsQuotes s) s) × (meaning t s ≡ s)
 unfolding goodText
-text-held t s h = (text-writes s (and-left (allOf textByte s) _ h), same-eq (meaning t s) s (and-right (allOf textByte s) _ h))
+text-held t s h = (text-writes s (and-left (allOf textByte s) _ h), bytes-true (meaning t s) s (and-right (allOf textByte s) _ h))
 
 module _ (c : Context) where
   text-canon : (s : List ℕ) → goodText T s ≡ true → Canon c T (text s) (field (needsQuotes s) s)

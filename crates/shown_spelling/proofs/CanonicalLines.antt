@@ -6,14 +6,14 @@ use mathlib.Core.Option.{Option, none, some}
 use mathlib.Core.Bool.{true, false, not, false≢true}
 use borrow.Author.Tests.{not-true}
 use lib.Dec.{eqb}
+use Rattle.basics.proofs.Lists.{all-sound}
+use Rattle.basics.proofs.Bools.{and-left, and-right, neither}
 use Rattle.law.specs.Bytes as by
 use Rattle.law.specs.Bytes.{permitted, All, begins}
 use Rattle.law.specs.Fields.{Field, field, Spells, bare, quoted, Spelled}
 use Rattle.text_fields.specs.Fields.{fieldsOf}
 use Rattle.law.specs.Fields as sp
-use Rattle.text.proofs.Lists.{and-left, and-right, all-sound}
 use Rattle.text_fields.proofs.FieldSpelling.{fields-complete}
-use Rattle.number.proofs.Tests.{or-false}
 use Rattle.law.specs.Values.{Value, Rec}
 use Rattle.law.specs.Words.{propWord, sameBytes}
 use Rattle.law.specs.Layouts.{Front, keyword, prop, plain, Layout, layoutOf}
@@ -70,13 +70,13 @@ first-data fs (asBare {s} a h) = go s h
   where
     go : (s : List ℕ) → safe s ≡ true → not (begins 46 s) ≡ true
     go [] h = refl
-    go (b ∷ s) h = rw (or-false (eqb b 35) _ (not-true _ h) .1)
+    go (b ∷ s) h = rw (neither (eqb b 35) _ (not-true _ h) .1)
 first-data fs (asQuoted a) = refl
 
 append-first : (s t : List ℕ) → safe s ≡ true → begins 35 (s ++ t) ≡ false
 unfolding begins
 append-first [] t h = absurd (false≢true h)
-append-first (b ∷ s) t h = or-false (eqb b 35) _ (not-true _ h) .0
+append-first (b ∷ s) t h = neither (eqb b 35) _ (not-true _ h) .0
 
 joined-first : {f : Field} (fs : List Field) → Writes f → begins 35 (joined (f ∷ fs)) ≡ false
 unfolding joined written begins

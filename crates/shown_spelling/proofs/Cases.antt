@@ -8,7 +8,7 @@ use Rattle.law.specs.Bytes.{permitted, allOf, begins, none, ascii}
 use Rattle.law.specs.Lines.{blank, comment}
 use Rattle.text_fields.specs.FirstField.{span, endsWell, bareAt, closedAt, quotedAt, fieldAt, fieldOf}
 use Rattle.text_fields.specs.Fields.{fieldsIn, fieldsOf}
-use Rattle.number.specs.Numbers.{digitHere, judge, decimals, whole, body, readNumber}
+use Rattle.number.specs.Numbers.{digitHere, toCount, decimals, whole, body, readNumber}
 use Rattle.law.specs.Printing.{numeralOf, decimalsOf, magnitudeOf, signOf, printed}
 use Rattle.law.specs.Values.{Value, number, word, text, Rec}
 use Rattle.form.specs.Values.{Reply, good, refused}
@@ -51,7 +51,7 @@ pub lines :
     × (reads plain (T ∷ []) ".5x" ≡ refused 5)
     × (reads plain (W Faces ∷ []) "\"TOP\"" ≡ refused 9)
     × (reads plain (Ref ∷ []) "\"BOARD\"" ≡ refused 9)
-unfolding readLine lineAs begins allOf permitted fieldsOf fieldsIn fieldOf fieldAt bareAt quotedAt closedAt endsWell span readFields readEach readField meaning barred kept within readNumber body whole decimals judge digitHere wordsOf placeOf sameBytes folded
+unfolding readLine lineAs begins allOf permitted fieldsOf fieldsIn fieldOf fieldAt bareAt quotedAt closedAt endsWell span readFields readEach readField meaning barred kept within readNumber body whole decimals toCount digitHere wordsOf placeOf sameBytes folded
 lines = (refl, refl, refl, refl, refl, refl, refl, refl)
 
 -- the listing's second line, the reasons for quotes, a value below zero, a closing line
@@ -70,5 +70,5 @@ of k vs = record { kind = k; values = vs }
 pub library-lines :
     SpellsLines (under Idf3 Library) outside (of 10 [] ∷ of 11 (word 2 ∷ number (pos 300_000) ∷ txt "s" ∷ txt "2024/05/06.07:08:09" ∷ number (pos 1) ∷ []) ∷ of 19 [] ∷ [])
     (ascii "# made by hand" ∷ ascii ".header" ∷ ascii "LIBRARY_FILE 3.0 s 2024/05/06.07:08:09 1" ∷ ascii ".END_HEADER" ∷ [] ∷ [])
-unfolding readLine lineAs begins allOf permitted fieldsOf fieldsIn fieldOf fieldAt bareAt quotedAt closedAt endsWell span readFields readEach readField meaning barred kept within readNumber body whole decimals judge digitHere wordsOf placeOf sameBytes folded layoutOf sectionOf lineOf sections sectionNames wordAt roleOf isDate fitsIn isTwo datePieces readInteger unsigned digits
+unfolding readLine lineAs begins allOf permitted fieldsOf fieldsIn fieldOf fieldAt bareAt quotedAt closedAt endsWell span readFields readEach readField meaning barred kept within readNumber body whole decimals toCount digitHere wordsOf placeOf sameBytes folded layoutOf sectionOf lineOf sections sectionNames wordAt roleOf isDate fitsIn isTwo datePieces readInteger unsigned digits
 library-lines = free comment (line (record-sound (record { layout = _; known = refl; reads = refl })) (line (record-sound (record { layout = _; known = refl; reads = refl })) (line (record-sound (record { layout = _; known = refl; reads = refl })) (free (blank none) end))))

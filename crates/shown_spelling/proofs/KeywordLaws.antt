@@ -8,8 +8,8 @@ use mathlib.Core.Bool.{Bool, true, false, cond, not, false≢true}
 use native.Mathlib.Omega.{arith}
 use borrow.Author.Tests.{eq-eqb, not-true}
 use lib.ListN.{length}
-use Rattle.text.proofs.Lists.{and-left, and-right}
-use Rattle.number.proofs.Tests.{cond-cases}
+use Rattle.basics.proofs.Bytes.{bytes-true, bytes-self}
+use Rattle.basics.proofs.Bools.{and-left, and-right, cond-cases, none-some, or-second}
 use Rattle.law.specs.Sections.{sectionNames, SectionForm, sections, nth, sectionAt}
 use Rattle.law.specs.Words.{endWord, sameBytes, wordAt}
 use Rattle.law.specs.Layouts.{openWord, closeWord}
@@ -17,9 +17,7 @@ use Rattle.form.specs.Reading.{keyFrom, keyBy, keywordOf}
 use Rattle.law.specs.declared.Rules.{Rules}
 use Rattle.form.specs.declared.Keyword.{Keyword}
 use Rattle.form.specs.declared.Keyword.the-variants.{Opening, Closing, Unknown}
-use Rattle.shown_spelling.proofs.Logic.{none-some}
-use Rattle.form.proofs.CompareLaws.{same-eq}
-use Rattle.shown_spelling.proofs.WordSpelling.{same-refl, isIn, differ, or-right}
+use Rattle.shown_spelling.proofs.WordSpelling.{isIn, differ}
 use Rattle.shown_spelling.proofs.Tables.{startsWith, names-differ, name-no-end, sections-named}
 
 -- a prefix does not change whether bytes are the same
@@ -31,21 +29,21 @@ same-after (a ∷ p) s t = rw (eq-eqb a a refl) (same-after p s t)
 at-in : (ks : List (List ℕ)) (i : ℕ) → i < length ks → isIn (wordAt ks i) ks ≡ true
 unfolding wordAt
 at-in [] i h = absurd (omega arith)
-at-in (k ∷ ks) zero h = rw (same-refl k)
-at-in (k ∷ ks) (suc i) h = or-right (sameBytes (wordAt ks i) k) _ (at-in ks i (omega arith))
+at-in (k ∷ ks) zero h = rw (bytes-self k)
+at-in (k ∷ ks) (suc i) h = or-second (sameBytes (wordAt ks i) k) _ (at-in ks i (omega arith))
 
 -- the first name that stands for a keyword is the one that it has, where all differ
 key-finds : (p : List ℕ) (n : ℕ) (ks : List (List ℕ)) (i : ℕ) → differ ks ≡ true → i < length ks → keyFrom p n ks (p ++ wordAt ks i) ≡ some (n + i)
 unfolding keyFrom wordAt
 key-finds p n [] i d h = absurd (omega arith)
-key-finds p n (k ∷ ks) zero d h = rw (same-refl (p ++ k)) (ap some (omega arith))
+key-finds p n (k ∷ ks) zero d h = rw (bytes-self (p ++ k)) (ap some (omega arith))
 key-finds p n (k ∷ ks) (suc i) d h =
     go (sameBytes k (wordAt ks i)) refl (not-true _ (and-left (not (isIn k ks)) _ d)) (key-finds p (suc n) ks i (and-right (not (isIn k ks)) _ d) (omega arith))
   where
     go : (t : Bool) → sameBytes k (wordAt ks i) ≡ t → isIn k ks ≡ false → keyFrom p (suc n) ks (p ++ wordAt ks i) ≡ some (suc n + i)
         → cond (sameBytes (p ++ k) (p ++ wordAt ks i)) (some n) (keyFrom p (suc n) ks (p ++ wordAt ks i)) ≡ some (n + suc i)
     go true e x r =
-        let y : isIn k ks ≡ true = rw (same-eq k (wordAt ks i) e) (at-in ks i (omega arith)) in
+        let y : isIn k ks ≡ true = rw (bytes-true k (wordAt ks i) e) (at-in ks i (omega arith)) in
         absurd (false≢true (sym x ∙ y))
     go false e x r = rw (same-after p k (wordAt ks i), e) (r ∙ ap some (omega arith))
 
@@ -61,7 +59,7 @@ unfolding keyFrom wordAt
 key-means p n [] w m e = absurd (none-some e)
 key-means p n (k ∷ ks) w m e =
     ⊎-elim
-    (λ f. let z : m ≡ n = cc (f .1) in record { i = 0; within = omega arith; at = omega arith; is = sym (same-eq (p ++ k) w (f .0)) })
+    (λ f. let z : m ≡ n = cc (f .1) in record { i = 0; within = omega arith; at = omega arith; is = sym (bytes-true (p ++ k) w (f .0)) })
     (λ f. let r = key-means p (suc n) ks w m (f .1) in record { i = suc (r .i); within = omega arith; at = omega arith; is = r .is })
     (cond-cases (sameBytes (p ++ k) w) e)
 

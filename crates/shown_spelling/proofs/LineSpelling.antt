@@ -7,10 +7,11 @@ use mathlib.Core.Bool.{Bool, true, false, cond, false≢true}
 use native.Mathlib.Omega.{arith}
 use borrow.Author.Tests.{eqb-true, not-true}
 use lib.Dec.{eqb}
+use Rattle.basics.proofs.Bytes.{bytes-true, bytes-same}
+use Rattle.basics.proofs.Lists.{all-sound, all-complete}
 use Rattle.law.specs.Bytes.{permitted, All, allOf, begins, ascii}
 use Rattle.law.specs.Fields.{Field, field, bare, Spelled, space, last, next}
 use Rattle.text_fields.specs.Fields.{fieldsOf}
-use Rattle.text.proofs.Lists.{all-sound, all-complete}
 use Rattle.text_fields.proofs.FieldSpelling.{fields-sound, fields-complete}
 use Rattle.law.specs.Values.{Value}
 use Rattle.form.specs.Values.{Reply, good, refused}
@@ -23,8 +24,7 @@ use Rattle.law.specs.declared.FieldType.{FieldType}
 use Rattle.law.specs.WordSpelling.{AnyCase}
 use Rattle.law.specs.RecordSpelling.{SpellsFields, isData, SpellsLine, withKeyword, withProp, asData}
 use Rattle.shown_spelling.proofs.Logic.{refused-good, cond-good}
-use Rattle.form.proofs.CompareLaws.{same-eq}
-use Rattle.shown_spelling.proofs.WordSpelling.{eq-same, case-folds, folds-case}
+use Rattle.shown_spelling.proofs.WordSpelling.{case-folds, folds-case}
 use Rattle.shown_spelling.proofs.ValueSpelling.{values-sound, values-complete}
 
 -- What `lineAs` answers, as a property of the answer
@@ -91,7 +91,7 @@ module _ {c : Context} where
   unfolding folded
   key-sound k {ts} {vs} {s} {w} {fs} {gs} l e r =
       let g = cond-good 5 (sameBytes (46 ∷ k) w) e in
-      let x : 46 ∷ k ≡ 46 ∷ folded (l .v) = same-eq (46 ∷ k) w (g .0) ∙ l .folds in
+      let x : 46 ∷ k ≡ 46 ∷ folded (l .v) = bytes-true (46 ∷ k) w (g .0) ∙ l .folds in
       let y : k ≡ folded (l .v) = cc in
       let z : fs ≡ gs = cc (g .1) in
       let m : AnyCase k (l .v) = rw y (folds-case (l .v)) in
@@ -145,7 +145,7 @@ record Head (p : List ℕ) : Type 0 where
   period : eqb b 46 ≡ false
 
 prop-head : (p : List ℕ) → sameBytes propWord p ≡ true → Head p
-prop-head p h = record { b = 80; q = ascii "ROP"; is = sym (same-eq propWord p h); hash = refl; period = refl }
+prop-head p h = record { b = 80; q = ascii "ROP"; is = sym (bytes-true propWord p h); hash = refl; period = refl }
 
 key-line : {k w : List ℕ} {fs : List Field} {s : List ℕ} → AnyCase k w → Spelled (field false (46 ∷ w) ∷ fs) s → All permitted s → lineAs s ≡ keyLine (46 ∷ k) fs
 unfolding begins folded
@@ -170,7 +170,7 @@ Looks prop fs l = (p : List ℕ) × (sameBytes propWord p ≡ true) × (l ≡ da
 Looks plain fs l = l ≡ dataLine fs
 
 after-looks : (f : Front) (fs : List Field) (l : Line) → Looks f fs l → after f l ≡ good fs
-after-looks (keyword k) fs l e = rw (e, eq-same (46 ∷ k) (46 ∷ k) refl)
+after-looks (keyword k) fs l e = rw (e, bytes-same (46 ∷ k) (46 ∷ k) refl)
 after-looks prop fs l e = rw (e .2, e .1)
 after-looks plain fs l e = rw e
 

@@ -7,9 +7,6 @@ use native.Mathlib.Omega.{arith}
 use Rattle.form.specs.Values.{Reply, good, refused}
 
 module _ {A : Type 0} where
-  pub none-some : {a : A} → none ≡ some a → ⊥
-  none-some {a} e = let z : _≡_ {A = ℕ} 0 1 = cc in omega arith
-
   pub refused-good : {n : ℕ} {a : A} → refused n ≡ good a → ⊥
   refused-good {n} {a} e = let z : _≡_ {A = ℕ} 0 1 = cc in omega arith
 

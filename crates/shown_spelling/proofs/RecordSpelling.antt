@@ -6,10 +6,11 @@ use mathlib.Core.Option.{some}
 use mathlib.Core.Bool.{true}
 use borrow.Author.Tests.{le-leb}
 use lib.IntN.{ℤ, natAbs}
+use Rattle.basics.proofs.Bytes.{bytes-same}
+use Rattle.basics.proofs.Lists.{all-complete}
 use Rattle.law.specs.Bytes as by
 use Rattle.law.specs.Bytes.{permitted, All}
 use Rattle.law.specs.Fields.{Field, field, Spells, bare, quoted, Spelled, end, space, last, next}
-use Rattle.text.proofs.Lists.{all-complete}
 use Rattle.law.specs.Limits.{largestLength, largestInteger}
 use Rattle.law.specs.Numbers as num
 use Rattle.law.specs.Numbers.{SpellsNumber}
@@ -24,7 +25,6 @@ use Rattle.law.specs.declared.Context.{Context}
 use Rattle.law.specs.declared.FieldType.{FieldType}
 use Rattle.law.specs.declared.FieldType.the-variants.{Text as T, Reference as Ref}
 use Rattle.law.specs.RecordSpelling.{SpellsField, asText, asReference, asDate, asInteger, asNumber, asWord, SpellsFields, none as noFields, more, SpellsLine, withKeyword, withProp, asData, SpellsRecord, asLine}
-use Rattle.shown_spelling.proofs.WordSpelling.{eq-same}
 use Rattle.shown_spelling.proofs.BareBytes.{all-left, all-right, all-zip, bare-text, quoted-text}
 use Rattle.shown_spelling.proofs.Tables.{words-stand, listed-some}
 use Rattle.shown_spelling.proofs.LineSpelling.{line-sound, line-complete, line-unique}
@@ -72,7 +72,7 @@ meaning-twice t s = refl
 
 text-fits : (t : FieldType) (s : List ℕ) → All textByte s → goodText t (meaning t s) ≡ true
 unfolding goodText
-text-fits t s a = rw (all-complete textByte (meaning-bytes t a)) (eq-same _ _ (meaning-twice t s))
+text-fits t s a = rw (all-complete textByte (meaning-bytes t a)) (bytes-same _ _ (meaning-twice t s))
 
 module _ {c : Context} where
   -- What a field of permitted bytes spells fits its type

@@ -7,9 +7,10 @@ use mathlib.Core.Bool.{Bool, true, false, cond, not, _&&_, false≢true, true≢
 use borrow.Author.Tests.{leb-true, not-true}
 use lib.Dec.{leb, eqb}
 use lib.ListN.{length}
+use Rattle.basics.proofs.Lists.{all-sound, all-complete}
+use Rattle.basics.proofs.Bools.{and-left, and-right, none-some}
 use Rattle.law.specs.Bytes as by
 use Rattle.law.specs.Bytes.{permitted, All, allOf}
-use Rattle.text.proofs.Lists.{and-left, and-right, all-sound, all-complete}
 use Rattle.law.specs.Words.{wordsOf, endWord, sameBytes, wordAt}
 use Rattle.law.specs.Sections.{sectionNames, SectionForm, sections, nth, sectionAt}
 use Rattle.law.specs.Kinds as role
@@ -22,7 +23,6 @@ use Rattle.law.specs.declared.Words.{Words}
 use Rattle.law.specs.declared.Words.the-variants.{FileTypes, Units, Owners, Faces, Sides, Layers, Plates, Statuses}
 use Rattle.law.specs.declared.FieldType.{FieldType}
 use Rattle.law.specs.WordSpelling.{Listed, here, there}
-use Rattle.shown_spelling.proofs.Logic.{none-some}
 use Rattle.shown_spelling.proofs.WordSpelling.{differ}
 use Rattle.shown_spelling.proofs.BareBytes.{tight, safe, nameByte, all-append}
 

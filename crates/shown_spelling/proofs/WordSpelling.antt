@@ -8,23 +8,13 @@ use mathlib.Core.Bool.{Bool, true, false, cond, not, _&&_, _||_, false≢true}
 use native.Mathlib.Omega.{arith}
 use borrow.Author.Tests.{eq-eqb, leb-true, le-leb, not-true}
 use lib.Dec.{leb}
-use Rattle.text.proofs.Lists.{and-left, and-right}
-use Rattle.number.proofs.Tests.{cond-cases}
+use Rattle.basics.proofs.Bytes.{bytes-true, bytes-self}
+use Rattle.basics.proofs.Bools.{and-left, and-right, cond-cases, none-some, or-second}
 use Rattle.law.specs.Words.{sameBytes, isCapital, isSmall}
 use Rattle.form.specs.Compare.{folded, up, placeOf}
-use Rattle.form.proofs.CompareLaws.{same-eq}
 use Rattle.law.specs.WordSpelling.{Listed, here, there, AnyCase, end, same, small}
-use Rattle.shown_spelling.proofs.Logic.{none-some}
 
 -- Equal bytes
-pub same-refl : (s : List ℕ) → sameBytes s s ≡ true
-unfolding sameBytes
-same-refl [] = refl
-same-refl (a ∷ s) = rw (eq-eqb a a refl) (same-refl s)
-
-pub eq-same : (s t : List ℕ) → s ≡ t → sameBytes s t ≡ true
-eq-same s t h = rw h (same-refl t)
-
 -- Places
 up-some : (o : Option ℕ) (n : ℕ) → up o ≡ some n → (m : ℕ) × (o ≡ some m) × (n ≡ suc m)
 up-some none n h = absurd (none-some h)
@@ -48,13 +38,9 @@ abbrev pub differ : List (List ℕ) → Bool
 differ [] = true
 differ (w ∷ ws) = not (isIn w ws) && differ ws
 
-pub or-right : (a b : Bool) → b ≡ true → a || b ≡ true
-or-right true b h = refl
-or-right false b h = h
-
 listed-in : {ws : List (List ℕ)} {n : ℕ} {s : List ℕ} → Listed ws n s → isIn s ws ≡ true
-listed-in (here {w} {ws} {s} h) = rw (sym (same-eq w s h), same-refl w)
-listed-in (there {w} {ws} {n} {s} r) = or-right (sameBytes s w) _ (listed-in r)
+listed-in (here {w} {ws} {s} h) = rw (sym (bytes-true w s h), bytes-self w)
+listed-in (there {w} {ws} {n} {s} r) = or-second (sameBytes s w) _ (listed-in r)
 
 pub place-complete : {ws : List (List ℕ)} {n : ℕ} {s : List ℕ} → differ ws ≡ true → Listed ws n s → placeOf ws s ≡ some n
 unfolding placeOf
@@ -64,7 +50,7 @@ place-complete d (there {w} {ws} {n} {s} r) =
   where
     go : (t : Bool) → sameBytes w s ≡ t → isIn w ws ≡ false → placeOf ws s ≡ some n → cond t (some zero) (up (placeOf ws s)) ≡ some (suc n)
     go true h x i =
-        let y : isIn w ws ≡ true = rw (same-eq w s h) (listed-in r) in
+        let y : isIn w ws ≡ true = rw (bytes-true w s h) (listed-in r) in
         absurd (false≢true (sym x ∙ y))
     go false h x i = rw i
 

@@ -5,6 +5,8 @@ use mathlib.Core.List.{List, [], _∷_, _++_}
 use native.Mathlib.Omega.{arith}
 use lib.IntN.{ℤ, pos}
 use lib.ListN.{length, replicate}
+use Rattle.rows_texts.specs.Names.{sameNames}
+use Rattle.basics.specs.Integers.{eqZ}
 use Rattle.law.specs.Bytes.{permitted, allOf, begins, ascii}
 use Rattle.law.specs.Dates.{datePieces, isTwo, fitsIn, isDate}
 use Rattle.law.specs.Printing.{numeralOf, decimalsOf, magnitudeOf, signOf, printed}
@@ -18,7 +20,7 @@ use Rattle.law.specs.Fits.{within, meaning, barred, isEmpty, goodText, fits, fi
 use Rattle.law.specs.declared.Rules.the-variants.{Idf3}
 use Rattle.law.specs.Canonical.{needsQuotes, canonicalField, canonicalFields, written, joined, canonicalLine, canonicalRecord, canonicalText}
 use Rattle.law.specs.Rows.{none, aNumber, aWord, aDate, aText, RowsSay}
-use Rattle.order_loops.specs.Loops.{eqZ, loopAfter}
+use Rattle.order_loops.specs.Loops.{loopAfter}
 use Rattle.law.specs.Records.{shapeOf, manyLoops, namesAComponent}
 use Rattle.order.specs.Stages.{mayOpen, after}
 use Rattle.order.specs.Automaton.{advance, mayStand, moved, stepped}
@@ -26,7 +28,6 @@ use Rattle.law.specs.Lists.{nothing-named}
 use Rattle.shown_lists.proofs.Sound.{accepted-permitted}
 use Rattle.law.specs.Answers.{limit, reply}
 use Rattle.rows_texts.specs.Texts.{sameTexts}
-use Rattle.names.specs.Names.{sameNames}
 use Rattle.read.specs.Replies.{checkReply}
 use Rattle.write_columns.specs.Columns.{liesIn, rangeFits, integerFits, numberFits, wordFits, allZero, fieldsFit, rowFits}
 use Rattle.write_columns.specs.Records.{valuesIn}

@@ -5,7 +5,8 @@ use mathlib.Core.Logic.{_↔_}
 use mathlib.Core.List.{List, [], _∷_}
 use mathlib.Core.Bool.{Bool, true, false, cond, _&&_, _||_}
 use lib.IntN.{ℤ}
-use Rattle.number.proofs.Tests.{or-false}
+use Rattle.rows_texts.specs.Names.{sameNames}
+use Rattle.basics.proofs.Bools.{neither}
 use Rattle.law.specs.Values.{Rec}
 use Rattle.law.specs.Layouts.{typesOf}
 use Rattle.law.specs.declared.Rules.{Rules}
@@ -15,7 +16,6 @@ use Rattle.order.specs.Automaton.{sameName, isAmong}
 use Rattle.law.specs.Lists.{namesOf, AllDiffer, nothing-named, and-new, Distinct}
 use Rattle.shown_lists.proofs.Names.{not-among, among-false}
 use Rattle.rows_texts.specs.Texts.{sameTexts}
-use Rattle.names.specs.Names.{sameNames}
 use Rattle.write.specs.Writable.{namesIt, namedIn, twice}
 use Rattle.shown_read.proofs.RowColumns.{nameAt, name-in, names-is}
 use Rattle.shown_write.specs.Texts.{ListMeans, none, more}
@@ -27,7 +27,7 @@ again (a ∷ bs) = isAmong a bs || again bs
 
 again-differ : (ns : List Named) → again ns ≡ false → AllDiffer ns
 again-differ [] h = nothing-named
-again-differ (a ∷ bs) h = let w = or-false (isAmong a bs) (again bs) h in and-new (not-among a bs (w .0)) (again-differ bs (w .1))
+again-differ (a ∷ bs) h = let w = neither (isAmong a bs) (again bs) h in and-new (not-among a bs (w .0)) (again-differ bs (w .1))
 
 differ-again : {ns : List Named} → AllDiffer ns → again ns ≡ false
 differ-again nothing-named = refl

@@ -5,13 +5,14 @@ use mathlib.Core.Logic.{_↔_}
 use mathlib.Core.List.{List, [], _∷_}
 use mathlib.Core.Bool.{Bool, true, false, cond, false≢true}
 use lib.IntN.{ℤ}
+use Rattle.rows.specs.Columns.{typeInRow, pointIn}
+use Rattle.rows.specs.declared.Point.{Point}
 use Rattle.law.specs.Values.{Rec}
 use Rattle.law.specs.Layouts.{typesOf}
 use Rattle.law.specs.Fits.{under, wellFormed, WellFormed}
 use Rattle.law.specs.declared.Rules.{Rules}
 use Rattle.law.specs.declared.FileType.{FileType}
 use Rattle.law.specs.Rows.{Holds}
-use Rattle.order_loops.specs.declared.Point.{Point}
 use Rattle.law.specs.Records.{typeIn}
 use Rattle.order.specs.Marks.{pointOf}
 use Rattle.order.specs.Automaton.{typeAt, mayStand, stepped, advance, accepted, accepts}
@@ -20,13 +21,12 @@ use Rattle.order.specs.declared.Reason.the-variants.{Misplaced, Unfit}
 use Rattle.order.specs.declared.Outcome.{Outcome}
 use Rattle.order.specs.declared.Outcome.the-variants.{Next, Refused}
 use Rattle.order.proofs.Steps.{advance-is, advance-stepped}
-use Rattle.walk.specs.Judging.{typeInRow, pointIn}
 use Rattle.write_columns.specs.Columns.{kindIn, rowFits}
 use Rattle.write_columns.specs.Records.{recordIn}
 use Rattle.write_columns.proofs.RowRecords.{fits-record}
 use Rattle.write_columns.proofs.HeldRecords.{held-fits}
 use Rattle.write.specs.Writable.{rowStep, carries}
-use Rattle.shown_read.proofs.LineJoined.{judge-fresh, row-steps}
+use Rattle.shown_read.proofs.LineJoined.{admit-fresh, row-steps}
 use Rattle.shown_write.specs.Texts.{ListMeans, none, more, Wide, a-row}
 
 -- a test of the next state
@@ -55,7 +55,7 @@ module _ (v : Rules) where
       row-advances w = rw kind-is (go (mayStand v st (r .kind)) refl)
         where
           go : (b : Bool) → mayStand v st (r .kind) ≡ b → stepped v st (r .kind) (typeInRow x) (pointIn x) ≡ advance v st r
-          go true m = sym (row-steps v st bytes (r .kind) m x (r .values) h w) ∙ judge-fresh v st r
+          go true m = sym (row-steps v st bytes (r .kind) m x (r .values) h w) ∙ admit-fresh v st r
           go false m = barred st (r .kind) (typeInRow x) (pointIn x) m ∙ sym (advance-stepped v st r w ∙ barred st (r .kind) (typeIn r) (pointOf r) m)
 
       row-does : (f : State → Bool) → accepted (rowStep v bytes st x) f ≡ accepted (advance v st r) f

@@ -10,7 +10,7 @@ use lib.Dec.{ltb, eqb}
 use lib.IntN.{ℤ}
 use lib.ListN.{length, drop}
 use lib.Seq.{sets, sets-eq}
-use Rattle.text.proofs.Lists.{and-left, and-right}
+use Rattle.basics.proofs.Bools.{and-left, and-right}
 use Rattle.law.specs.Values.{Rec}
 use Rattle.law.specs.declared.Rules.the-variants.{Idf3}
 use Rattle.order.specs.Automaton.{start}

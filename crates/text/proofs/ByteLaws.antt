@@ -3,16 +3,16 @@ use Prim.Native.Nat.{ℕ, _+_, _≤_, _<_}
 use mathlib.Core.Path.{_≡_, refl, sym, ap, _∙_}
 use mathlib.Core.List.{List}
 use mathlib.Core.Logic.{_≢_}
-use mathlib.Core.Bool.{Bool, true, false, cond, _&&_}
+use mathlib.Core.Bool.{Bool, true, false, cond, _&&_, and-assoc, and-true}
 use native.Mathlib.Omega.{arith}
 use borrow.Author.Tests.{le-leb, lt-leb, eq-eqb, ne-eqb, eqb-true}
 use lib.Dec.{eqb}
 use lib.ListN.{length, drop, getD}
+use Rattle.basics.proofs.Lists.{at-cons, at-end}
 use Rattle.law.specs.Bytes.{permitted, allOf}
 use Rattle.text.specs.Bytes.{classOf}
 use Rattle.text.specs.declared.ByteClass.{ByteClass}
 use Rattle.text.specs.declared.ByteClass.the-variants.{Space, Quote, Permitted, Forbidden}
-use Rattle.text.proofs.Lists.{at-cons, at-end}
 
 pub space-class : (b : ℕ) → b ≡ 32 → Space ≡ classOf b
 unfolding classOf
@@ -57,14 +57,6 @@ class-permits b = go (eqb b 32) (eqb b 34) (permitted b) (λ h. rw (eqb-true b 3
 
 pub class-allows : (b : ℕ) (k : ByteClass) → k ≡ classOf b → allowed k ≡ permitted b
 class-allows b k e = ap allowed e ∙ sym (class-permits b)
-
-and-assoc : (a b c : Bool) → ((a && b) && c) ≡ (a && (b && c))
-and-assoc true b c = refl
-and-assoc false b c = refl
-
-and-true : (a : Bool) → (a && true) ≡ a
-and-true true = refl
-and-true false = refl
 
 -- all bytes permitted, those passed and those left
 pub record Cleaning (line : List ℕ) (good : Bool) (i : ℕ) : Type 0 where

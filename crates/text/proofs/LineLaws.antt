@@ -11,9 +11,9 @@ use native.Mathlib.Numerals.{add-one}
 use borrow.Author.Tests.{eq-eqb, ne-eqb, lt-ltb, ltb-true}
 use lib.Dec.{eqb, ltb}
 use lib.ListN.{length, take, drop, getD, length-drop}
+use Rattle.basics.proofs.Lists.{at-cons, at-end}
 use Rattle.text.specs.Lines.{endLen, contentLen, lineEnd, linesIn, linesOf}
 use Rattle.text.specs.declared.LineEnd.{LineEnd}
-use Rattle.text.proofs.Lists.{at-cons, at-end}
 
 module _ (s : List ℕ) (i : ℕ) (h : i < length s) where
   pub end-here : getD s i 0 ≡ 10 → 1 ≡ endLen (drop i s)

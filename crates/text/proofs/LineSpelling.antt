@@ -9,11 +9,11 @@ use borrow.Author.Tests.{eqb-true, not-true}
 use lib.Dec.{eqb, ltb}
 use lib.ListN.{length, take, drop, length-drop, take-append-drop}
 use lib.Seq.{drop-append-seam, take-append-seam, take-all, drop-drop}
+use Rattle.basics.proofs.Lists.{at-end}
 use Rattle.law.specs.Bytes as by
 use Rattle.law.specs.Bytes.{inLine, All}
 use Rattle.text.specs.Lines.{endLen, contentLen, lineEnd, linesOf}
 use Rattle.law.specs.Lines.{File, none, last, next}
-use Rattle.text.proofs.Lists.{at-end}
 use Rattle.text.proofs.LineLaws.{lines-none, lines-first}
 
 -- a line's content holds no byte that ends a line

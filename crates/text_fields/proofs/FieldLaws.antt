@@ -12,13 +12,13 @@ use borrow.Author.Tests.{ne-eqb}
 use lib.Dec.{eqb, eqb·zero-suc, eqb·suc-suc}
 use lib.ListN.{length, take, drop, getD, drop-of-length-le}
 use lib.Seq.{drop-cons}
+use Rattle.basics.proofs.Lists.{rest}
 use Rattle.law.specs.Bytes.{allOf}
 use Rattle.text_fields.specs.FirstField.{span, passesOf, runLen, endsWell, bareAt, closedAt, quotedAt, fieldAt, fieldOf}
 use Rattle.text_fields.specs.declared.Run.{Run}
 use Rattle.text_fields.specs.declared.Run.the-variants.{Spaces, Bare, Quoted}
 use Rattle.text_fields.specs.declared.FieldAnswer.{FieldAnswer}
 use Rattle.text_fields.specs.declared.FieldAnswer.the-variants.{Nothing, Got, Broken}
-use Rattle.text.proofs.Lists.{rest}
 
 -- a run is no longer than the list
 pub span-le : (p : ℕ → Bool) (s : List ℕ) → span p s ≤ length s

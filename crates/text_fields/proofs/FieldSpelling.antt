@@ -10,6 +10,7 @@ use borrow.Author.Tests.{eqb-true, not-false}
 use lib.Dec.{eqb}
 use lib.ListN.{length, take, drop, length-append, take-append-drop}
 use lib.Seq.{drop-drop, drop-append-seam, take-append-seam, drop-at}
+use Rattle.basics.proofs.Bools.{none-some}
 use Rattle.law.specs.Bytes as sp
 use Rattle.law.specs.Bytes.{isSpace, inBare, inQuotes, All}
 use Rattle.law.specs.Fields.{Field, field, Spells, Spelled, bare, quoted, end, space, last, next}
@@ -142,9 +143,6 @@ got-spelled {fs} {a} {l} {m} {q} s h r =
     let x : drop a s ≡ drop (t .j) u = ap (λ (i : ℕ). drop i s) (t .start) ∙ sym (drop-drop (t .j) k s) in
     let y : Spelled (field q (take l (drop (t .j) u)) ∷ fs) (take (t .n) u ++ drop (t .n) u) = join (take (t .n) u) (drop (t .n) u) (t .spells) (t .ends) (rw d at r) in
     strip s (rw x (rw take-append-drop at y))
-
-none-some : {fs : List Field} → none ≡ some fs → ⊥
-none-some {fs} e = let z : _≡_ {A = ℕ} 0 1 = cc in omega arith
 
 by-field : (fuel : ℕ) (s : List ℕ) (fs : List Field) → ((t : List ℕ) (gs : List Field) → fieldsIn fuel t ≡ some gs → Spelled gs t)
     → (x : FieldAnswer) → fieldOf s ≡ x → fieldsBy x s (λ n. fieldsIn fuel (drop n s)) ≡ some fs → Spelled fs s

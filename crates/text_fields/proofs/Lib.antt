@@ -3,5 +3,4 @@ pub mod Bounds
 pub mod Walk
 pub mod Counting
 pub mod StartLaws
-pub mod LookSpelling
 pub mod FieldSpelling

@@ -5,12 +5,14 @@ use mir.Val.{Fits}
 use mathlib.Core.Path.{_≡_, refl, sym, ap, _∙_}
 use mathlib.Core.List.{List, [], _∷_}
 use mathlib.Core.Option.{Option, none, some}
-use mathlib.Core.Bool.{Bool, true, false, cond, not, _&&_, _||_, true≢false}
+use mathlib.Core.Bool.{Bool, true, false, cond, not, _&&_, _||_, true≢false, or-assoc, or-false}
 use native.Mathlib.Omega.{arith}
 use native.Mathlib.Nat.{zero-add}
 use lib.Dec.{eqb}
 use lib.ListN.{length, take, drop, getD, length-drop}
 use lib.Seq.{drop-drop}
+use Rattle.basics.proofs.Bools.{or-left, or-right}
+use Rattle.basics.proofs.Lists.{at-cons, at-end}
 use Rattle.law.specs.Bytes.{isSpace, inBare}
 use Rattle.law.specs.Fields.{Field, field}
 use Rattle.text_fields.specs.FirstField.{span, endsWell, bareAt, fieldAt, fieldOf}
@@ -19,15 +21,6 @@ use Rattle.text_fields.specs.Starts.{oneIf, startsIn, holdsQuote, roughO
 use Rattle.text_fields.specs.declared.FieldAnswer.the-variants.{Nothing, Got}
 use Rattle.text_fields.specs.declared.CountAnswer.the-variants.{Fields}
 use Rattle.text_fields.specs.declared.Rough.{Rough}
-use Rattle.text.proofs.Lists.{at-cons, at-end}
-
-or-assoc : (a b c : Bool) → ((a || b) || c) ≡ (a || (b || c))
-or-assoc true b c = refl
-or-assoc false b c = refl
-
-or-false : (a : Bool) → (a || false) ≡ a
-or-false true = refl
-or-false false = refl
 
 -- starts and quotes, those passed and those left
 pub record Plaining (line : List ℕ) (n : ℕ) (quoted space : Bool) (i : ℕ) : Type 0 where
@@ -72,14 +65,6 @@ module _ (line : List ℕ) (n : ℕ) (quoted space : Bool) (i : ℕ) (p : Plaini
       rw (a, b)
 
 -- lines without quotes
-
-or-left : (a b : Bool) → (a || b) ≡ false → a ≡ false
-or-left true b h = h
-or-left false b h = refl
-
-or-right : (a b : Bool) → (a || b) ≡ false → b ≡ false
-or-right true b h = absurd (true≢false h)
-or-right false b h = h
 
 no-quote-behind : (n : ℕ) (s : List ℕ) → holdsQuote s ≡ false → holdsQuote (drop n s) ≡ false
 unfolding holdsQuote

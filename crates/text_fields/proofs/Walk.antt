@@ -8,12 +8,12 @@ use native.Mathlib.Nat.{not-suc-le-zero}
 use native.Mathlib.Omega.{arith}
 use lib.ListN.{length, take, drop, length-drop, length-append}
 use lib.Seq.{drop-drop}
+use Rattle.basics.proofs.Lists.{rest}
 use Rattle.law.specs.Fields.{Field, field}
 use Rattle.text_fields.specs.FirstField.{fieldOf}
 use Rattle.text_fields.specs.Fields.{before, fieldsBy, fieldsIn, fieldsOf}
 use Rattle.text_fields.specs.declared.FieldAnswer.{FieldAnswer}
 use Rattle.text_fields.specs.declared.FieldAnswer.the-variants.{Nothing, Got, Broken}
-use Rattle.text.proofs.Lists.{rest}
 use Rattle.text_fields.proofs.Bounds.{Lies, Bounded, bounded}
 
 -- fields in front of others, if there are others

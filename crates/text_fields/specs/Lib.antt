@@ -1,4 +1,3 @@
-pub mod Looks
 pub mod FirstField
 pub mod Fields
 pub mod Starts

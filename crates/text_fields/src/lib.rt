@@ -1,8 +1,7 @@
-// What a line is at first sight, and the fields that it is cut into.
+// The fields that a line is cut into, and how many there are.
 ghost use mathlib.Core.Path.{_≡_};
 ghost use Prim.Native.Nat.{_+_, _^_, _≤_, _<_};
 ghost use lib.ListN.{length, drop};
-ghost use Rattle.text_fields.specs.Looks.{lookOf};
 ghost use Rattle.text_fields.specs.FirstField.{passesOf, runLen, endsWell, bareAt, quotedAt, fieldOf};
 ghost use Rattle.text_fields.specs.Fields.{countOf};
 ghost use Rattle.text_fields.specs.Starts.{oneIf, roughOf};
@@ -37,26 +36,6 @@ fn run_len(s: &[u8], k: Run) -> usize
         i += 1;
     }
     i
-}
-
-// What a line is at first sight: a comment has # in column 1; a blank line has spaces or nothing.
-pub enum LineLook {
-    Comment,
-    Blank,
-    Other,
-}
-
-// What a line is at first sight.
-pub fn look(line: &[u8]) -> LineLook
-    ensures { λ r. ⌜ r ≡ lookOf (now (line .entry)) ⌝ }
-{
-    if text::begins_with(line, 35) {
-        return LineLook::Comment;
-    }
-    if run_len(line, Run::Spaces) == line.len() {
-        return LineLook::Blank;
-    }
-    LineLook::Other
 }
 
 // Whether a field may end before the byte at a place: at the line's end, or before a space.

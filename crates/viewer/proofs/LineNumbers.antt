@@ -8,13 +8,13 @@ use borrow.Author.Tests.{ltb-true, ltb-false}
 use lib.Dec.{ltb}
 use lib.ListN.{length, take, drop, length-drop}
 use lib.Seq.{drop-drop}
+use Rattle.basics.proofs.Lists.{at-end}
 use Rattle.law.specs.Bytes.{permitted, allOf}
 use Rattle.text_fields.specs.Fields.{countOf}
 use Rattle.text_fields.specs.declared.CountAnswer.{CountAnswer}
 use Rattle.text_fields.specs.declared.CountAnswer.the-variants.{Fields as Counted, Bad}
 use Rattle.text.specs.Lines.{lineEnd, linesIn, linesOf}
 use Rattle.text.proofs.LineLaws.{lines-none, lines-first}
-use Rattle.text.proofs.Lists.{at-end}
 use Rattle.law.specs.declared.Reply.{Reply}
 use Rattle.law.specs.Answers.{limit, reply}
 use Rattle.viewer.specs.declared.Step.{Step}

@@ -12,13 +12,13 @@ use native.Mathlib.Numerals.{add-one}
 use lib.IntN.{ℤ, pos}
 use lib.ListN.{length, take, drop, set, length-set, length-drop, take-append-drop}
 use lib.Seq.{drop-drop}
+use Rattle.basics.proofs.Lists.{rest}
 use Rattle.law.specs.Fields.{Field, field}
 use Rattle.text_fields.specs.FirstField.{fieldOf}
 use Rattle.text_fields.specs.Fields.{before, fieldsBy, fieldsIn, fieldsOf, countBy, countOf}
 use Rattle.text_fields.specs.declared.FieldAnswer.{FieldAnswer}
 use Rattle.text_fields.specs.declared.FieldAnswer.the-variants.{Nothing, Got, Broken}
 use Rattle.text_fields.specs.declared.CountAnswer.the-variants.{Fields as Counted}
-use Rattle.text.proofs.Lists.{rest}
 use Rattle.text_fields.proofs.Bounds.{Lies, Bounded, bounded}
 use Rattle.law.specs.Answers.{over}
 use Rattle.viewer.specs.Views.{placesBy, placesIn, placesOf}

@@ -6,17 +6,17 @@ use mathlib.Core.Bool.{Bool, true, false, cond, not, true≢false, false≢true}
 use native.Mathlib.Omega.{arith}
 use mir.Syntax.{w64}
 use mir.Val.{Fits}
-use borrow.Author.Tests.{lt-ltb, le-ltb}
+use borrow.Author.Tests.{lt-ltb, le-ltb, not-true, not-false}
 use lib.Dec.{eqb}
 use lib.IntN.{ℤ}
 use lib.ListN.{length, take, drop, length-drop, length-take}
+use Rattle.basics.proofs.Lists.{rest}
 use Rattle.law.specs.Bytes.{permitted, allOf, begins}
 use Rattle.text.specs.Lines.{lineEnd}
 use Rattle.text_fields.specs.Fields.{countOf}
 use Rattle.text_fields.specs.declared.CountAnswer.{CountAnswer}
 use Rattle.text_fields.specs.declared.CountAnswer.the-variants.{Fields as Counted, Bad}
 use Rattle.text.specs.declared.LineEnd.{LineEnd}
-use Rattle.text.proofs.Lists.{rest}
 use Rattle.text.proofs.LineLaws.{line-inside}
 use Rattle.law.specs.declared.Reply.{Reply}
 use Rattle.law.specs.Answers.{limit, reply, over}
@@ -27,14 +27,6 @@ use Rattle.viewer.specs.Views.{lineAt, nextAt, seenBy, seenOf, placesOf,
 use Rattle.viewer.proofs.PlaceLaws.{places-long}
 
 -- a tested answer turned round
-not-true : (b : Bool) → not b ≡ true → b ≡ false
-not-true true h = absurd (false≢true h)
-not-true false h = refl
-
-not-false : (b : Bool) → not b ≡ false → b ≡ true
-not-false true h = refl
-not-false false h = absurd (true≢false h)
-
 -- a line at first sight
 module _ (s : List ℕ) (b : Bool) (e : b ≡ allOf permitted s) where
   pub seen-forbidden : not b ≡ true → Refused 3 ≡ seenOf s

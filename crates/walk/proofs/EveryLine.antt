@@ -24,7 +24,7 @@ use Rattle.line_rows.specs.declared.LineKind.the-variants.{Free, Bad, Key, Data
 use Rattle.order.specs.Places.{keyKind, dataKind}
 use Rattle.order.specs.Automaton.{roleNumber, mayStand, typeAt}
 use Rattle.order.specs.declared.State.{State}
-use Rattle.walk.specs.declared.Judged.{Judged}
+use Rattle.walk.specs.declared.JudgedLine.{JudgedLine}
 use Rattle.walk.specs.Judging.{refusedBy, freeBy, filledBy, ofKind, dataBy, judgedBy, judged}
 
 -- a line by itself is refused with 3 or 4
@@ -56,9 +56,9 @@ numbered s = go (begins 35 s) (allOf permitted s) (fieldsOf s)
     go false true (some fs) = first fs
     go false false o = λ h. omega arith
 
-module _ (v : Rules) (st : State) (P : Judged → Type 0) (wrong : (n : ℕ) → (n ≡ 0 → ⊥) → P (refusedBy st n)) (nothing : P (freeBy st))
+module _ (v : Rules) (st : State) (P : JudgedLine → Type 0) (wrong : (n : ℕ) → (n ≡ 0 → ⊥) → P (refusedBy st n)) (nothing : P (freeBy st))
     (good : (k b : ℕ) (s : List ℕ) (m : ℕ) → P (filledBy v st k (filled (under v (typeAt st)) k b s m))) where
-  either : (b : Bool) (x y : Judged) → P x → P y → P (cond b x y)
+  either : (b : Bool) (x y : JudgedLine) → P x → P y → P (cond b x y)
   either true x y f g = f
   either false x y f g = g
 

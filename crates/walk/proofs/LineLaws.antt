@@ -10,6 +10,10 @@ use borrow.Author.Tests.{eq-eqb, ne-eqb, not-true, not-false}
 use lib.IntN.{ℤ, pos}
 use lib.ListN.{length, take}
 use lib.Seq.{length-take-le}
+use Rattle.rows.specs.Columns.{columnAt, pointIn, typeInRow}
+use Rattle.rows.specs.declared.Point.{Point}
+use Rattle.basics.proofs.Integers.{same-as}
+use Rattle.basics.specs.Integers.{eqZ}
 use Rattle.law.specs.Kinds.{roleOf}
 use Rattle.law.specs.Layouts.{typesOf}
 use Rattle.law.specs.declared.Rules.{Rules}
@@ -21,8 +25,6 @@ use Rattle.line_rows.specs.Rows.{filled}
 use Rattle.line_rows.specs.declared.LineKind.{LineKind}
 use Rattle.line_rows.specs.declared.LineKind.the-variants.{Key}
 use Rattle.line_rows.specs.declared.Filling.{Filling}
-use Rattle.order_loops.specs.Loops.{eqZ}
-use Rattle.order_loops.specs.declared.Point.{Point}
 use Rattle.order.specs.declared.Stage.{Stage}
 use Rattle.order.specs.declared.Phase.{Phase}
 use Rattle.order.specs.declared.State.{State}
@@ -32,41 +34,25 @@ use Rattle.order.specs.declared.Outcome.{Outcome}
 use Rattle.order.specs.declared.Outcome.the-variants.{Next, Refused as Stops}
 use Rattle.order.specs.Places.{dataKind, keyKind}
 use Rattle.order.specs.Automaton.{refusalNumber, typeAt, mayStand, stepped, roleNumber, moved}
-use Rattle.order_loops.proofs.LoopLaws.{same-as}
 use Rattle.walk.specs.declared.Found.the-variants.{Row, Nothing}
-use Rattle.walk.specs.declared.Judged.{Judged}
-use Rattle.walk.specs.Judging.{noRow, refusedBy, freeBy, columnAt, pointIn, typeInRow, movedRow, filledBy, ofKind, dataBy, judgedBy, judged}
+use Rattle.walk.specs.declared.JudgedLine.{JudgedLine}
+use Rattle.walk.specs.Judging.{noRow, refusedBy, freeBy, movedRow, filledBy, ofKind, dataBy, judgedBy, judged}
 
 pub free-between : (st : State) (g : Stage) → st ≡ Between g → record { found = Nothing; row = noRow; state = st } ≡ freeBy st
 free-between st g h = rw h
 
-pub free-inside : (st : State) (g : Stage) (s : ℕ) (p : Phase) (r : Judged) → st ≡ Inside g s p → r ≡ refusedBy st 5 → r ≡ freeBy st
+pub free-inside : (st : State) (g : Stage) (s : ℕ) (p : Phase) (r : JudgedLine) → st ≡ Inside g s p → r ≡ refusedBy st 5 → r ≡ freeBy st
 free-inside st g s p r h e = let z : refusedBy st 5 ≡ freeBy st = rw h in e ∙ z
-
--- the type of a title line by its first column
-abbrev pub column : List ℤ → ℕ → ℤ
-column row i = toZ w64 (ofZ w64 (columnAt row i))
-
-pub row-board : (row : List ℤ) (x : Bool) → SFits w64 (columnAt row 1) → x ≡ eqZ (column row 1) (pos 0) → x ≡ true → Board ≡ typeInRow row
-row-board row x f e h = rw (sym (same-as (columnAt row 1) (pos 0) x f e) ∙ h)
-
-pub row-panel : (row : List ℤ) (x y : Bool) → SFits w64 (columnAt row 1) → x ≡ eqZ (column row 1) (pos 0) → x ≡ false
-    → y ≡ eqZ (column row 1) (pos 1) → y ≡ true → Panel ≡ typeInRow row
-row-panel row x y f e h d g = rw (sym (same-as (columnAt row 1) (pos 0) x f e) ∙ h, sym (same-as (columnAt row 1) (pos 1) y f d) ∙ g)
-
-pub row-library : (row : List ℤ) (x y : Bool) → SFits w64 (columnAt row 1) → x ≡ eqZ (column row 1) (pos 0) → x ≡ false
-    → y ≡ eqZ (column row 1) (pos 1) → y ≡ false → Library ≡ typeInRow row
-row-library row x y f e h d g = rw (sym (same-as (columnAt row 1) (pos 0) x f e) ∙ h, sym (same-as (columnAt row 1) (pos 1) y f d) ∙ g)
 
 pub moved-next : (st t : State) (row : List ℤ) (o : Outcome) → o ≡ Next t → record { found = Row; row = row; state = t } ≡ movedRow st row o
 moved-next st t row o h = rw h
 
-pub moved-not : (st : State) (row : List ℤ) (o : Outcome) (e : Reason) (n : ℕ) (r : Judged) → o ≡ Stops e → n ≡ refusalNumber e 5 → r ≡ refusedBy st n
+pub moved-not : (st : State) (row : List ℤ) (o : Outcome) (e : Reason) (n : ℕ) (r : JudgedLine) → o ≡ Stops e → n ≡ refusalNumber e 5 → r ≡ refusedBy st n
     → r ≡ movedRow st row o
 moved-not st row o e n r h f g = rw (h, sym f) g
 
 -- fields that were read, or refused
-module _ (v : Rules) (st : State) (k : ℕ) (f : Filling) (r : Judged) where
+module _ (v : Rules) (st : State) (k : ℕ) (f : Filling) (r : JudgedLine) where
   pub filled-bad : (f .refused ≡ 0 → ⊥) → r ≡ refusedBy st (f .refused) → r ≡ filledBy v st k f
   unfolding filledBy
   filled-bad h e = rw (ne-eqb (f .refused) 0 h) e
@@ -80,7 +66,7 @@ module _ (v : Rules) (st : State) (k : ℕ) (f : Filling) (r : Judged) where
 pub kind-stands : (v : Rules) (st : State) (k : ℕ) (x : Bool) → x ≡ mayStand v st k → not x ≡ false → mayStand v st k ≡ true
 kind-stands v st k x e h = sym e ∙ not-false x h
 
-module _ (v : Rules) (st : State) (k : ℕ) (s : List ℕ) (b n m : ℕ) (x : Bool) (e : x ≡ mayStand v st k) (r : Judged) where
+module _ (v : Rules) (st : State) (k : ℕ) (s : List ℕ) (b n m : ℕ) (x : Bool) (e : x ≡ mayStand v st k) (r : JudgedLine) where
   pub kind-misplaced : not x ≡ true → r ≡ refusedBy st 5 → r ≡ ofKind v st k s b n m
   unfolding ofKind
   kind-misplaced h q = rw (sym e ∙ not-true x h) q
@@ -96,7 +82,7 @@ module _ (v : Rules) (st : State) (k : ℕ) (s : List ℕ) (b n m : ℕ) (x : Bo
     kind-filled t f g a d q = rw (sym e ∙ not-false x h, eq-eqb n (length (typesOf v k)) (g ∙ i), sym a, sym d) q
 
 -- a data line
-module _ (v : Rules) (st : State) (s : List ℕ) (b n m : ℕ) (marked : Bool) (k j : ℕ) (e : k ≡ dataKind v st marked) (i : j ≡ roleNumber (roleOf v k)) (r : Judged) where
+module _ (v : Rules) (st : State) (s : List ℕ) (b n m : ℕ) (marked : Bool) (k j : ℕ) (e : k ≡ dataKind v st marked) (i : j ≡ roleNumber (roleOf v k)) (r : JudgedLine) where
   pub data-prop : j ≡ 5 → r ≡ ofKind v st k s b (n - 1) m → r ≡ dataBy v st s b marked n m
   unfolding dataBy
   data-prop h q = rw (sym e, sym i, h) q
@@ -106,11 +92,11 @@ module _ (v : Rules) (st : State) (s : List ℕ) (b n m : ℕ) (marked : Bool) (
   data-plain h q = rw (sym e, sym i, ne-eqb j 5 h) q
 
 -- a line by what it is
-pub judged-at : (v : Rules) (st : State) (s : List ℕ) (b : ℕ) (x y : LineKind) (r : Judged) → x ≡ kindOf s → x ≡ y → r ≡ judgedBy v st s b y → r ≡ judged v st b s
+pub judged-at : (v : Rules) (st : State) (s : List ℕ) (b : ℕ) (x y : LineKind) (r : JudgedLine) → x ≡ kindOf s → x ≡ y → r ≡ judgedBy v st s b y → r ≡ judged v st b s
 unfolding judged
 judged-at v st s b x y r e h q = rw (sym e ∙ h) q
 
-pub judged-key : (v : Rules) (st : State) (s : List ℕ) (b : ℕ) (x : LineKind) (w : Keyword) (n m k : ℕ) (r : Judged) → x ≡ kindOf s → x ≡ Key w n m → k ≡ keyKind v w
+pub judged-key : (v : Rules) (st : State) (s : List ℕ) (b : ℕ) (x : LineKind) (w : Keyword) (n m k : ℕ) (r : JudgedLine) → x ≡ kindOf s → x ≡ Key w n m → k ≡ keyKind v w
     → r ≡ ofKind v st k s b (n - 1) m → r ≡ judged v st b s
 unfolding judged
 judged-key v st s b x w n m k r e h i q = rw (sym e ∙ h, sym i) q

@@ -3,9 +3,9 @@ use Prim.Native.Nat.{ℕ, suc, _+_, _^_, _≤_, _<_}
 use mathlib.Core.Path.{_≡_, refl, sym, subst, _∙_}
 use mathlib.Core.List.{List, [], _∷_}
 use mathlib.Core.Option.{Option, none, some}
-use mathlib.Core.Bool.{Bool, true, false, cond, not, _&&_, false≢true}
+use mathlib.Core.Bool.{Bool, true, false, cond, not, _&&_, false≢true, and-false}
 use native.Mathlib.Omega.{arith}
-use borrow.Author.Tests.{leb-true}
+use borrow.Author.Tests.{leb-true, not-false}
 use lib.Dec.{leb, eqb}
 use lib.ListN.{length}
 use Rattle.law.specs.Bytes.{permitted, allOf, begins}
@@ -18,7 +18,7 @@ use Rattle.text_fields.proofs.Bounds.{Bounded, bounded}
 use Rattle.law.specs.Sections.{sectionNames, sections}
 use Rattle.law.specs.Words.{endWord, sameBytes}
 use Rattle.form.specs.Compare.{folded}
-use Rattle.law.specs.Kinds.{sectionOf, unknown, roleOf}
+use Rattle.law.specs.Kinds.{sectionOf, unknown, roleOf, lastKind}
 use Rattle.form.specs.Reading.{Line, free, bad, keyLine, dataLine, byFirst, byFields, lineAs, keyFrom, keyBy, keywordOf}
 use Rattle.law.specs.declared.Rules.{Rules}
 use Rattle.law.specs.declared.Rules.the-variants.{Idf3}
@@ -150,26 +150,18 @@ nowhere InList = refl
 nowhere AwaitPart = refl
 nowhere AwaitPosition = refl
 
-large-unknown : (v : Rules) (k : ℕ) → leb k 159 ≡ false → roleOf v k ≡ unknown
+large-unknown : (v : Rules) (k : ℕ) → leb k lastKind ≡ false → roleOf v k ≡ unknown
 unfolding roleOf sectionOf
 large-unknown Idf3 k h = rw h
 
-large-nowhere : (v : Rules) (st : State) (k : ℕ) → leb k 159 ≡ false → mayStand v st k ≡ false
+large-nowhere : (v : Rules) (st : State) (k : ℕ) → leb k lastKind ≡ false → mayStand v st k ≡ false
 unfolding mayStand
 large-nowhere v (Between g) k h = rw (large-unknown v k h)
-large-nowhere v (Inside g s p) k h = rw (large-unknown v k h, nowhere p) (off (eqb (sectionOf v k) s))
-  where
-    off : (b : Bool) → (b && false) ≡ false
-    off true = refl
-    off false = refl
+large-nowhere v (Inside g s p) k h = rw (large-unknown v k h, nowhere p) (and-false (eqb (sectionOf v k) s))
 
 pub stand-small : (v : Rules) (st : State) (k : ℕ) (x : Bool) → x ≡ mayStand v st k → not x ≡ false → k < 2 ^ 63
-stand-small v st k x e h = go (leb k 159) refl
+stand-small v st k x e h = go (leb k lastKind) refl
   where
-    stands : (x : Bool) → not x ≡ false → x ≡ true
-    stands true i = refl
-    stands false i = absurd (false≢true (sym i))
-
-    go : (b : Bool) → leb k 159 ≡ b → k < 2 ^ 63
-    go true i = let l = leb-true k 159 i in omega arith
-    go false i = absurd (false≢true (sym (large-nowhere v st k i) ∙ sym e ∙ stands x h))
+    go : (b : Bool) → leb k lastKind ≡ b → k < 2 ^ 63
+    go true i = let l = leb-true k lastKind i in omega arith
+    go false i = absurd (false≢true (sym (large-nowhere v st k i) ∙ sym e ∙ not-false x h))

@@ -8,7 +8,9 @@ use native.Mathlib.Omega.{arith}
 use borrow.Author.Tests.{leb-true}
 use lib.Dec.{leb, eqb}
 use lib.IntN.{ℤ}
-use Rattle.law.specs.Kinds.{sectionOf, roleOf}
+use Rattle.rows.specs.Columns.{pointIn, typeInRow}
+use Rattle.rows.specs.declared.Point.{Point}
+use Rattle.law.specs.Kinds.{sectionOf, roleOf, lastKind}
 use Rattle.law.specs.Fits.{under}
 use Rattle.law.specs.declared.Rules.{Rules}
 use Rattle.law.specs.declared.Rules.the-variants.{Idf3}
@@ -19,7 +21,6 @@ use Rattle.order_loops.specs.Loops.{loopAfter, complete}
 use Rattle.law.specs.Records.{manyLoops}
 use Rattle.order.specs.Places.{sectionIn}
 use Rattle.order.specs.Automaton.{roleNumber, mayStand, moved, movedBy, stepped, afterPoint, onlyIf, onOrOut, typeAt}
-use Rattle.order_loops.specs.declared.Point.{Point}
 use Rattle.order.specs.declared.Stage.{Stage}
 use Rattle.order_loops.specs.declared.LoopState.{LoopState}
 use Rattle.order.specs.declared.Phase.{Phase}
@@ -29,8 +30,8 @@ use Rattle.order.specs.declared.State.the-variants.{Between, Inside}
 use Rattle.order.specs.declared.Reason.the-variants.{Misplaced}
 use Rattle.order.specs.declared.Outcome.{Outcome}
 use Rattle.order.specs.declared.Outcome.the-variants.{Next, Refused as Stops}
-use Rattle.walk.specs.declared.Judged.{Judged}
-use Rattle.walk.specs.Judging.{pointIn, typeInRow, refusedBy, freeBy, movedRow, filledBy, judged}
+use Rattle.walk.specs.declared.JudgedLine.{JudgedLine}
+use Rattle.walk.specs.Judging.{refusedBy, freeBy, movedRow, filledBy, judged}
 use Rattle.walk.proofs.EveryLine.{every-line}
 
 abbrev Few : Outcome → Type 0
@@ -39,10 +40,10 @@ Few (Stops e) = Unit {0}
 
 section-few : (v : Rules) (k : ℕ) → sectionOf v k ≤ 15
 unfolding sectionOf
-section-few Idf3 k = go (leb k 159) refl
+section-few Idf3 k = go (leb k lastKind) refl
   where
-    go : (b : Bool) → leb k 159 ≡ b → cond b (k / 10) 0 ≤ 15
-    go true h = let l = leb-true k 159 h in omega arith
+    go : (b : Bool) → leb k lastKind ≡ b → cond b (k / 10) 0 ≤ 15
+    go true h = let l = leb-true k lastKind h in omega arith
     go false h = omega arith
 
 module _ (g : Stage) (s : ℕ) (h : s ≤ 15) where
@@ -86,7 +87,7 @@ few-stepped v (Inside g s p) k t d h = go (mayStand v (Inside g s p) k)
     go true = few-moved g s h p (roleNumber (roleOf v k)) t d
     go false = tt
 
-abbrev Kept : Judged → Type 0
+abbrev Kept : JudgedLine → Type 0
 Kept j = sectionIn (j .state) ≤ 15
 
 kept-free : (st : State) → sectionIn st ≤ 15 → Kept (freeBy st)

@@ -9,12 +9,12 @@ use mir.Val.{Fits}
 use borrow.Author.Tests.{lt-ltb, le-ltb, ltb-true}
 use lib.Dec.{ltb}
 use lib.ListN.{length, take, drop, length-drop}
+use Rattle.basics.proofs.Lists.{rest}
 use Rattle.text.specs.Lines.{lineEnd}
 use Rattle.text.specs.declared.LineEnd.{LineEnd}
-use Rattle.text.proofs.Lists.{rest}
 use Rattle.text.proofs.LineLaws.{line-inside}
 use Rattle.law.specs.declared.Rules.the-variants.{Idf3}
-use Rattle.walk.specs.declared.Judged.{Judged}
+use Rattle.walk.specs.declared.JudgedLine.{JudgedLine}
 use Rattle.walk.specs.declared.Walk.{Walk}
 use Rattle.walk.specs.declared.Turn.{Turn}
 use Rattle.walk.specs.Judging.{judged}
@@ -48,7 +48,7 @@ module _ (file : List ℕ) (w : Walk) (h : Steady file w) where
         let n : e .next ≤ length (partAt file w) = rw i k in
         omega (arith, part-long file w (h .within))
 
-    pub turn-is : (j : Judged) (r : Turn) → j ≡ judged Idf3 (w .state) (w .at) (take (e .content) (partAt file w)) → r ≡ turned j (w .at + e .next) (w .line + 1)
+    pub turn-is : (j : JudgedLine) (r : Turn) → j ≡ judged Idf3 (w .state) (w .at) (take (e .content) (partAt file w)) → r ≡ turned j (w .at + e .next) (w .line + 1)
         → r ≡ turnOf file w
     unfolding turnOf lineIn
     turn-is j r a b = b ∙ rw (a, i, rest (w .at) file)

@@ -5,6 +5,9 @@ use mathlib.Core.Bool.{Bool, cond}
 use lib.Dec.{eqb}
 use lib.IntN.{ℤ, pos}
 use lib.ListN.{length, getD, replicate}
+use Rattle.rows.specs.Columns.{pointIn, typeInRow}
+use Rattle.rows.specs.declared.Point.{Point}
+use Rattle.basics.specs.Integers.{eqZ}
 use Rattle.law.specs.Kinds.{prop, roleOf}
 use Rattle.law.specs.Layouts.{typesOf}
 use Rattle.law.specs.Fits.{under}
@@ -17,69 +20,55 @@ use Rattle.line_rows.specs.Rows.{filled}
 use Rattle.line_rows.specs.declared.LineKind.{LineKind}
 use Rattle.line_rows.specs.declared.LineKind.the-variants.{Free, Bad, Key, Data}
 use Rattle.line_rows.specs.declared.Filling.{Filling}
-use Rattle.order_loops.specs.Loops.{eqZ}
 use Rattle.order.specs.Places.{dataKind, keyKind}
 use Rattle.order.specs.Automaton.{isRole, refusalNumber, typeAt, mayStand, stepped}
-use Rattle.order_loops.specs.declared.Point.{Point}
 use Rattle.order.specs.declared.State.{State}
 use Rattle.order.specs.declared.State.the-variants.{Between, Inside}
 use Rattle.order.specs.declared.Outcome.{Outcome}
 use Rattle.order.specs.declared.Outcome.the-variants.{Next, Refused as Stops}
 use Rattle.walk.specs.declared.Found.the-variants.{Row, Nothing, Refused}
-use Rattle.walk.specs.declared.Judged.{Judged}
+use Rattle.walk.specs.declared.JudgedLine.{JudgedLine}
 
 abbrev pub noRow : List ℤ
 noRow = replicate width (pos 0)
 
 -- a refused line leaves the state as it is
-abbrev pub refusedBy : State → ℕ → Judged
+abbrev pub refusedBy : State → ℕ → JudgedLine
 refusedBy st n = record { found = Refused n; row = noRow; state = st }
 
 -- a comment or blank line stands between sections
-abbrev pub freeBy : State → Judged
+abbrev pub freeBy : State → JudgedLine
 freeBy (Between g) = record { found = Nothing; row = noRow; state = Between g }
 freeBy (Inside g s p) = refusedBy (Inside g s p) 5
 
--- number i of a row
-abbrev pub columnAt : List ℤ → ℕ → ℤ
-columnAt row i = getD row i (pos 0)
-
--- the point in the row of a point line
-abbrev pub pointIn : List ℤ → Point
-pointIn row = record { label = columnAt row 1; x = record { 0 = columnAt row 2 }; y = record { 0 = columnAt row 3 }; angle = record { 0 = columnAt row 4 } }
-
--- the file's type in the row of a title line
-abbrev pub typeInRow : List ℤ → FileType
-typeInRow row = cond (eqZ (columnAt row 1) (pos 0)) Board (cond (eqZ (columnAt row 1) (pos 1)) Panel Library)
-
 -- what a record does: on to the next state, or its refusal
-abbrev pub movedRow : State → List ℤ → Outcome → Judged
+abbrev pub movedRow : State → List ℤ → Outcome → JudgedLine
 movedRow st row (Next t) = record { found = Row; row = row; state = t }
 movedRow st row (Stops e) = refusedBy st (refusalNumber e 5)
 
 -- a line of kind k whose fields were read
-unfoldable pub filledBy : Rules → State → ℕ → Filling → Judged
+unfoldable pub filledBy : Rules → State → ℕ → Filling → JudgedLine
 filledBy v st k f = cond (eqb (f .refused) 0) (movedRow st (f .row) (stepped v st k (typeInRow (f .row)) (pointIn (f .row)))) (refusedBy st (f .refused))
 
 -- a line s of kind k with n fields from the place m on; it starts at b in the file
-unfoldable pub ofKind : Rules → State → ℕ → List ℕ → ℕ → ℕ → ℕ → Judged
+unfoldable pub ofKind : Rules → State → ℕ → List ℕ → ℕ → ℕ → ℕ → JudgedLine
 ofKind v st k s b n m =
     cond (mayStand v st k)
     (cond (eqb n (length (typesOf v k))) (filledBy v st k (filled (under v (typeAt st)) k b s m)) (refusedBy st 6))
     (refusedBy st 5)
 
 -- a data line: its place is its kind, and PROP itself is no field
-unfoldable pub dataBy : Rules → State → List ℕ → ℕ → Bool → ℕ → ℕ → Judged
+unfoldable pub dataBy : Rules → State → List ℕ → ℕ → Bool → ℕ → ℕ → JudgedLine
 dataBy v st s b marked n m =
     let k = dataKind v st marked in
     cond (isRole (roleOf v k) prop) (ofKind v st k s b (n - 1) m) (ofKind v st k s b n 0)
 
-abbrev pub judgedBy : Rules → State → List ℕ → ℕ → LineKind → Judged
+abbrev pub judgedBy : Rules → State → List ℕ → ℕ → LineKind → JudgedLine
 judgedBy v st s b Free = freeBy st
 judgedBy v st s b (Bad n) = refusedBy st n
 judgedBy v st s b (Key w n m) = ofKind v st (keyKind v w) s b (n - 1) m
 judgedBy v st s b (Data marked n m) = dataBy v st s b marked n m
 
 -- the line s that starts at b in the file
-unfoldable pub judged : Rules → State → ℕ → List ℕ → Judged
+unfoldable pub judged : Rules → State → ℕ → List ℕ → JudgedLine
 judged v st b s = judgedBy v st s b (kindOf s)

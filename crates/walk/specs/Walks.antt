@@ -12,7 +12,7 @@ use Rattle.law.specs.Answers.{limit}
 use Rattle.order.specs.Automaton.{start}
 use Rattle.walk.specs.declared.Found.{Found}
 use Rattle.walk.specs.declared.Found.the-variants.{Row, Nothing, Refused}
-use Rattle.walk.specs.declared.Judged.{Judged}
+use Rattle.walk.specs.declared.JudgedLine.{JudgedLine}
 use Rattle.walk.specs.declared.Walk.{Walk}
 use Rattle.walk.specs.declared.Turn.{Turn}
 use Rattle.walk.specs.Judging.{judged}
@@ -22,13 +22,13 @@ abbrev pub begun : Walk
 begun = record { at = 0; line = 1; state = start }
 
 -- the line that begins at the walk's place, on the file from there on
-unfoldable pub lineIn : List ℕ → Walk → Judged
+unfoldable pub lineIn : List ℕ → Walk → JudgedLine
 lineIn file w =
     let s = drop (w .at) file in
     judged Idf3 (w .state) (w .at) (take (lineEnd s .content) s)
 
 -- a step whose line was judged so; the next line, of this number, begins at a place
-abbrev pub turned : Judged → ℕ → ℕ → Turn
+abbrev pub turned : JudgedLine → ℕ → ℕ → Turn
 turned j at line = record { found = j .found; row = j .row; walk = record { at = at; line = line; state = j .state } }
 
 -- one step

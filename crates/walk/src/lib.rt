@@ -12,9 +12,9 @@ pub enum Found {
 }
 
 // A line judged: what it is, its row if it is a record, and the state after it.
-pub struct Judged {
+pub struct JudgedLine {
     pub found: Found,
-    pub row: [i64; line_rows::WIDTH],
+    pub row: [i64; rows::WIDTH],
     pub state: State,
 }
 
@@ -28,6 +28,6 @@ pub struct Walk {
 // One step of a walk: what the line is, its row, and where the walk stands after it.
 pub struct Turn {
     pub found: Found,
-    pub row: [i64; line_rows::WIDTH],
+    pub row: [i64; rows::WIDTH],
     pub walk: Walk,
 }

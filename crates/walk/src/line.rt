@@ -1,19 +1,15 @@
 // One line of a file in a state: which record it is, its row, and the state after it, or the number of its refusal.
 use crate::Found;
-use crate::Judged;
+use crate::JudgedLine;
 use law::Context;
 use law::FileType;
 use law::Rules;
 use law::refusals;
 use line_rows::Filling;
 use line_rows::LineKind;
-use line_rows::WIDTH;
-use number::Angle;
-use number::Length;
 use order::Outcome;
 use order::State;
-use order_loops::Point;
-use order_loops::same;
+use rows::WIDTH;
 ghost use mathlib.Core.Path.{_≡_};
 ghost use mathlib.Core.Bool.{true};
 ghost use Prim.Native.Nat.{_+_, _^_, _≤_, _<_};
@@ -21,13 +17,13 @@ ghost use lib.ListN.{length, take};
 ghost use Rattle.law.specs.Kinds.{roleOf};
 ghost use Rattle.order.specs.Places.{sectionIn};
 ghost use Rattle.order.specs.Automaton.{roleNumber, mayStand};
-ghost use Rattle.walk.specs.Judging.{refusedBy, freeBy, pointIn, typeInRow, movedRow, filledBy, ofKind, dataBy, judged};
+ghost use Rattle.walk.specs.Judging.{refusedBy, freeBy, movedRow, filledBy, ofKind, dataBy, judged};
 
 // A refused line leaves the state as it is.
-fn refused(st: State, n: u64) -> Judged
+fn refused(st: State, n: u64) -> JudgedLine
     ensures { λ r. ⌜ r ≡ refusedBy st n ⌝ }
 {
-    Judged {
+    JudgedLine {
         found: Found::Refused(n),
         row: [0; WIDTH],
         state: st,
@@ -35,11 +31,11 @@ fn refused(st: State, n: u64) -> Judged
 }
 
 // A comment or blank line stands between sections.
-fn free(st: State) -> Judged
+fn free(st: State) -> JudgedLine
     ensures { λ r. ⌜ r ≡ freeBy st ⌝ }
 {
     match st {
-        State::Between(_) => Judged {
+        State::Between(_) => JudgedLine {
             found: Found::Nothing,
             row: [0; WIDTH],
             state: st,
@@ -48,37 +44,12 @@ fn free(st: State) -> Judged
     }
 }
 
-// The point in the row of a point line.
-pub fn point_in(row: [i64; WIDTH]) -> Point
-    ensures { λ r. ⌜ r ≡ pointIn row ⌝ }
-{
-    Point {
-        label: row[1],
-        x: Length(row[2]),
-        y: Length(row[3]),
-        angle: Angle(row[4]),
-    }
-}
-
-// The file's type in the row of a title line.
-pub fn type_in(row: [i64; WIDTH]) -> FileType
-    ensures { λ r. ⌜ r ≡ typeInRow row ⌝ }
-{
-    if same(row[1], 0) {
-        return FileType::Board;
-    }
-    if same(row[1], 1) {
-        return FileType::Panel;
-    }
-    FileType::Library
-}
-
 // What a record does: on to the next state, or its refusal.
-fn taken(st: State, row: [i64; WIDTH], o: Outcome) -> Judged
+fn taken(st: State, row: [i64; WIDTH], o: Outcome) -> JudgedLine
     ensures { λ r. ⌜ r ≡ movedRow st row o ⌝ }
 {
     match o {
-        Outcome::Next(t) => Judged {
+        Outcome::Next(t) => JudgedLine {
             found: Found::Row,
             row: row,
             state: t,
@@ -88,7 +59,7 @@ fn taken(st: State, row: [i64; WIDTH], o: Outcome) -> Judged
 }
 
 // A line of a kind that may stand, whose fields were read.
-fn filled(v: Rules, st: State, kind: u64, role: u64, f: Filling) -> Judged
+fn filled(v: Rules, st: State, kind: u64, role: u64, f: Filling) -> JudgedLine
     requires { ⌜ (mayStand v st kind ≡ true) × (role ≡ roleNumber (roleOf v kind)) ⌝ }
     ensures { λ r. ⌜ r ≡ filledBy v st kind f ⌝ }
 {
@@ -100,7 +71,14 @@ fn filled(v: Rules, st: State, kind: u64, role: u64, f: Filling) -> Judged
     taken(
         st,
         row,
-        order_states::moved(v, st, kind, role, type_in(row), point_in(row)),
+        order_states::moved(
+            v,
+            st,
+            kind,
+            role,
+            rows::file_type_in(row),
+            rows::point_in(row),
+        ),
     )
 }
 
@@ -114,7 +92,7 @@ fn of_kind(
     base: usize,
     n: usize,
     from: usize,
-) -> Judged
+) -> JudgedLine
     requires { ⌜ (role ≡ roleNumber (roleOf v kind)) × (from ≤ length (now s)) × (base + length (now s) < 2 ^ 62) ⌝ }
     ensures { λ r. ⌜ r ≡ ofKind v st kind (now (s .entry)) base n from ⌝ }
 {
@@ -138,7 +116,15 @@ fn of_kind(
 }
 
 // A data line of n fields: its place is its kind, and PROP itself is no field.
-fn data(v: Rules, st: State, s: &[u8], base: usize, marked: bool, n: usize, after: usize) -> Judged
+fn data(
+    v: Rules,
+    st: State,
+    s: &[u8],
+    base: usize,
+    marked: bool,
+    n: usize,
+    after: usize,
+) -> JudgedLine
     requires { ⌜ (sectionIn st ≤ 15) × (1 ≤ n) × (after ≤ length (now s)) × (base + length (now s) < 2 ^ 62) ⌝ }
     ensures { λ r. ⌜ r ≡ dataBy v st (now (s .entry)) base marked n after ⌝ }
 {
@@ -152,7 +138,7 @@ fn data(v: Rules, st: State, s: &[u8], base: usize, marked: bool, n: usize, afte
 }
 
 // A line that starts at `base` in the file.
-fn line(v: Rules, st: State, s: &[u8], base: usize) -> Judged
+fn line(v: Rules, st: State, s: &[u8], base: usize) -> JudgedLine
     requires { ⌜ (sectionIn st ≤ 15) × (base + length (now s) < 2 ^ 62) ⌝ }
     ensures { λ r. ⌜ r ≡ judged v st base (now (s .entry)) ⌝ }
 {
@@ -169,7 +155,7 @@ fn line(v: Rules, st: State, s: &[u8], base: usize) -> Judged
 }
 
 // The line of `len` bytes at the front of a part of a file; the part starts at `base`.
-pub fn judge(v: Rules, st: State, part: &[u8], base: usize, len: usize) -> Judged
+pub fn judge_line(v: Rules, st: State, part: &[u8], base: usize, len: usize) -> JudgedLine
     requires { ⌜ (sectionIn st ≤ 15) × (len ≤ length (now part)) × (base + length (now part) < 2 ^ 62) ⌝ }
     ensures { λ r. ⌜ r ≡ judged v st base (take len (now (part .entry))) ⌝ }
 {

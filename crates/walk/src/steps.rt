@@ -1,6 +1,6 @@
 // The steps of a walk. Every loop over files is made of them.
 use crate::Found;
-use crate::Judged;
+use crate::JudgedLine;
 use crate::Turn;
 use crate::Walk;
 use crate::line;
@@ -22,7 +22,7 @@ pub fn begin() -> Walk
 }
 
 // A step whose line was judged so; the next line, of this number, begins at `at`.
-fn behind(j: Judged, at: usize, line: u64) -> Turn
+fn behind(j: JudgedLine, at: usize, line: u64) -> Turn
     ensures { λ r. ⌜ r ≡ turned j at line ⌝ }
 {
     let found = j.found;
@@ -41,7 +41,7 @@ pub fn turn(file: &[u8], w: Walk) -> Turn
     let line = w.line;
     let st = w.state;
     let e = text::line_end(&file[at..]);
-    let j = line::judge(Rules::Idf3, st, &file[at..], at, e.content);
+    let j = line::judge_line(Rules::Idf3, st, &file[at..], at, e.content);
     behind(j, at + e.next, line + 1)
 }
 

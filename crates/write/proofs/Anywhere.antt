@@ -6,7 +6,8 @@ use mathlib.Core.Bool.{Bool, true, false, not, cond, _&&_, false≢true}
 use lib.Dec.{leb}
 use lib.IntN.{ℤ, natAbs}
 use lib.ListN.{length}
-use Rattle.text.proofs.Lists.{and-left, and-right}
+use Rattle.rows.specs.Columns.{columnAt, typeInRow, pointIn, kindColumn}
+use Rattle.basics.proofs.Bools.{and-left, and-right, and-both}
 use Rattle.law.specs.Limits.{largestLength, below}
 use Rattle.law.specs.Values.{text}
 use Rattle.form_layouts.specs.Letters.{widthOf, isKind}
@@ -23,21 +24,17 @@ use Rattle.order.specs.declared.State.{State}
 use Rattle.order.specs.declared.Outcome.{Outcome}
 use Rattle.order.specs.declared.Outcome.the-variants.{Next, Refused}
 use Rattle.order.specs.declared.Reason.the-variants.{Unfit}
-use Rattle.walk.specs.Judging.{columnAt, typeInRow, pointIn}
 use Rattle.rows_texts.specs.Texts.{textAt}
 use Rattle.write_columns.specs.Columns.{liesIn, rangeFits, numberFits, fieldFits, columnFits, fieldsFit, kindIn, rowFits}
 use Rattle.write_lines.specs.LineText.{anywhere}
 use Rattle.write.specs.Writable.{rowStep, carries}
 use Rattle.write.specs.Outcomes.{allFit}
 
-both : {a b : Bool} → a ≡ true → b ≡ true → (a && b) ≡ true
-both h k = rw (h, k)
-
 module _ (v : Rules) (u : FileType) (bytes : List ℕ) where
   bytes-any : (t : FieldType) (s : List ℕ) → fits (under v u) t (text s) ≡ true → fits (anywhere v) t (text s) ≡ true
   unfolding fits barred
   bytes-any T s h = h
-  bytes-any Ref s h = both (and-left (goodText Ref s) _ h) refl
+  bytes-any Ref s h = and-both _ _ (and-left (goodText Ref s) _ h) refl
   bytes-any D s h = h
   bytes-any I s h = h
   bytes-any (N l) s h = h
@@ -45,7 +42,7 @@ module _ (v : Rules) (u : FileType) (bytes : List ℕ) where
 
   range-any : (t : FieldType) (a b : ℤ) → rangeFits (under v u) t bytes a b ≡ true → rangeFits (anywhere v) t bytes a b ≡ true
   unfolding rangeFits
-  range-any t a b h = both (and-left (liesIn (length bytes) a b) _ h) (bytes-any t (textAt bytes a b) (and-right (liesIn (length bytes) a b) _ h))
+  range-any t a b h = and-both _ _ (and-left (liesIn (length bytes) a b) _ h) (bytes-any t (textAt bytes a b) (and-right (liesIn (length bytes) a b) _ h))
 
   within-any : (l : Limit) (z : ℤ) → within (under v u) l z ≡ true → within (anywhere v) l z ≡ true
   unfolding within
@@ -62,7 +59,7 @@ module _ (v : Rules) (u : FileType) (bytes : List ℕ) where
   field-any Ref a b h = range-any Ref a b h
   field-any D a b h = range-any D a b h
   field-any I a b h = h
-  field-any (N l) a b h = both (and-left (leb (natAbs a) largestLength) _ h) (within-any l a (and-right (leb (natAbs a) largestLength) _ h))
+  field-any (N l) a b h = and-both _ _ (and-left (leb (natAbs a) largestLength) _ h) (within-any l a (and-right (leb (natAbs a) largestLength) _ h))
   field-any (W l) a b h = h
 
   fields-any : (row : List ℤ) (ts : List FieldType) (i : ℕ) → fieldsFit (under v u) bytes row ts i ≡ true → fieldsFit (anywhere v) bytes row ts i ≡ true
@@ -70,15 +67,15 @@ module _ (v : Rules) (u : FileType) (bytes : List ℕ) where
   fields-any row [] i h = h
   fields-any row (t ∷ ts) i h =
       let a = columnFits (under v u) t bytes row i in
-      both (field-any t (columnAt row i) (columnAt row (i + 1)) (and-left a _ h)) (fields-any row ts (i + widthOf t) (and-right a (fieldsFit (under v u) bytes row ts (i + widthOf t)) h))
+      and-both _ _ (field-any t (columnAt row i) (columnAt row (i + 1)) (and-left a _ h)) (fields-any row ts (i + widthOf t) (and-right a (fieldsFit (under v u) bytes row ts (i + widthOf t)) h))
 
   row-any : (row : List ℤ) → rowFits (under v u) bytes row ≡ true → rowFits (anywhere v) bytes row ≡ true
   unfolding rowFits
   row-any row h =
-      let a = not (below (columnAt row 0)) in
+      let a = not (below (kindColumn row)) in
       let b = isKind v (kindIn row) in
       let k = and-right a (b && fieldsFit (under v u) bytes row (typesOf v (kindIn row)) 1) h in
-      both (and-left a _ h) (both (and-left b _ k) (fields-any row (typesOf v (kindIn row)) 1 (and-right b _ k)))
+      and-both _ _ (and-left a _ h) (and-both _ _ (and-left b _ k) (fields-any row (typesOf v (kindIn row)) 1 (and-right b _ k)))
 
 module _ (v : Rules) (bytes : List ℕ) where
   pub carries-fit : (xs : List (List ℤ)) (st : State) → carries v bytes st xs ≡ true → allFit v bytes xs ≡ true
@@ -88,6 +85,6 @@ module _ (v : Rules) (bytes : List ℕ) where
     where
       go : (b : Bool) → rowFits (under v (typeAt st)) bytes x ≡ b → (o : Outcome) → accepted (cond b o (Refused Unfit)) (λ t. carries v bytes t xs) ≡ true
           → ((t : State) → carries v bytes t xs ≡ true → allFit v bytes xs ≡ true) → rowFits (anywhere v) bytes x && allFit v bytes xs ≡ true
-      go true e (Next t) k rec = both (row-any v (typeAt st) bytes x e) (rec t k)
+      go true e (Next t) k rec = and-both _ _ (row-any v (typeAt st) bytes x e) (rec t k)
       go true e (Refused r) k rec = absurd (false≢true k)
       go false e o k rec = absurd (false≢true k)

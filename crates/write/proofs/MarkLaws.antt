@@ -7,10 +7,13 @@ use native.Mathlib.Omega.{arith}
 use borrow.Author.Tests.{not-true}
 use lib.IntN.{ℤ}
 use lib.ListN.{length, drop}
+use Rattle.rows_texts.proofs.NameLaws.{same-key}
+use Rattle.rows_texts.specs.Names.{sameNames, keyOf}
+use Rattle.rows.specs.RowKinds.{leadsComponent}
+use Rattle.basics.proofs.Bools.{or-left, or-right}
 use Rattle.names_slots.specs.Marks.{mayHold}
-use Rattle.names.specs.Names.{leadsComponent, sameNames}
-use Rattle.names.specs.Marks.{keyOf, heldIf, markedIf}
-use Rattle.names.proofs.KeyLaws.{same-key, marked-if-length, marked-keeps, marked-here, marked-not, not-used, among-all, or-left, or-right, asked-used, asked-not}
+use Rattle.names.specs.Marks.{heldIf, markedIf}
+use Rattle.names.proofs.KeyLaws.{marked-if-length, marked-keeps, marked-here, marked-not, not-used, among-all, asked-used, asked-not}
 use Rattle.write.specs.WholeRows.{wholeRows, rowIn}
 use Rattle.write.specs.Writable.{namesIt, namedIn, twice}
 use Rattle.write.specs.Marks.{againAmong, twiceAmong, Told, Doubted}

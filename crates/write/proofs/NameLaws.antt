@@ -5,7 +5,8 @@ use mathlib.Core.List.{List}
 use mathlib.Core.Bool.{Bool, true, false, _||_}
 use lib.IntN.{ℤ}
 use lib.ListN.{length, drop}
-use Rattle.names.specs.Names.{leadsComponent, sameNames}
+use Rattle.rows_texts.specs.Names.{sameNames}
+use Rattle.rows.specs.RowKinds.{leadsComponent}
 use Rattle.write.specs.WholeRows.{wholeRows, rowIn}
 use Rattle.write.specs.Writable.{namesIt, namedIn}
 use Rattle.write.proofs.RowLaws.{row-here, row-none}

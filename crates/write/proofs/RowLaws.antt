@@ -12,11 +12,12 @@ use borrow.Author.Tests.{not-true, not-false}
 use lib.IntN.{ℤ, pos, natAbs}
 use lib.ListN.{length, take, drop, set, getD, length-drop, length-set, drop-of-length-le}
 use lib.Seq.{take-suc, take-suc-set, take-all, getD-drop, drop-drop}
-use Rattle.number.proofs.SignLaws.{back}
+use Rattle.rows.specs.Columns.{columnAt, typeInRow, pointIn, kindColumn}
+use Rattle.rows.specs.declared.Point.{Point}
+use Rattle.basics.proofs.Integers.{back}
 use Rattle.law.specs.Fits.{under}
 use Rattle.law.specs.declared.Rules.{Rules}
 use Rattle.law.specs.declared.FileType.{FileType}
-use Rattle.order_loops.specs.declared.Point.{Point}
 use Rattle.law.specs.Rows.{width}
 use Rattle.order.specs.Automaton.{start, accepting, accepted, typeAt, stepped}
 use Rattle.order.specs.declared.State.{State}
@@ -24,7 +25,6 @@ use Rattle.order.specs.declared.Reason.{Reason}
 use Rattle.order.specs.declared.Reason.the-variants.{Unfit}
 use Rattle.order.specs.declared.Outcome.{Outcome}
 use Rattle.order.specs.declared.Outcome.the-variants.{Next, Refused}
-use Rattle.walk.specs.Judging.{columnAt, typeInRow, pointIn}
 use Rattle.write_columns.specs.Columns.{rowFits}
 use Rattle.write.specs.declared.Stood.{Stood}
 use Rattle.write.specs.WholeRows.{chunks, wholeRows, rowIn}
@@ -104,10 +104,10 @@ module _ (v : Rules) (bytes : List ℕ) (st : State) (row : List ℤ) (f : FileT
   unfolding rowStep
   step-unfit h = rw (sym fits-is ∙ not-true x h)
 
-  pub step-goes : (k : ℕ) (t : FileType) (d : Point) (o : Outcome) → not x ≡ false → SFits w64 (columnAt row 0) → k ≡ natAbs (back (columnAt row 0)) → t ≡ typeInRow row → d ≡ pointIn row
+  pub step-goes : (k : ℕ) (t : FileType) (d : Point) (o : Outcome) → not x ≡ false → SFits w64 (kindColumn row) → k ≡ natAbs (back (kindColumn row)) → t ≡ typeInRow row → d ≡ pointIn row
       → o ≡ stepped v st k t d → o ≡ rowStep v bytes st row
   unfolding rowStep
-  step-goes k t d o h s i j m n = rw (sym fits-is ∙ not-false x h) (n ∙ rw (i, j, m, toZ-ofZ w64 (columnAt row 0) s))
+  step-goes k t d o h s i j m n = rw (sym fits-is ∙ not-false x h) (n ∙ rw (i, j, m, toZ-ofZ w64 (kindColumn row) s))
 
 module _ (st : State) (o : Outcome) where
   pub stood-next : (t : State) → o ≡ Next t → record { good = true; state = t } ≡ stoodBy st o

@@ -7,7 +7,7 @@ use native.Mathlib.Omega.{arith}
 use lib.IntN.{ℤ}
 use lib.ListN.{length, drop, length-append}
 use lib.Seq.{sets}
-use Rattle.text.proofs.Lists.{and-left, and-right}
+use Rattle.basics.proofs.Bools.{and-left, and-right}
 use Rattle.number_print.specs.Printing.{Wrote}
 use Rattle.number_print.proofs.PrintLaws.{wrote-length, wrote-more}
 use Rattle.law.specs.declared.Rules.{Rules}

@@ -5,9 +5,9 @@ use mathlib.Core.List.{List, [], _∷_}
 use mathlib.Core.Bool.{Bool, true, false, _&&_, _||_}
 use lib.IntN.{ℤ}
 use lib.ListN.{length}
+use Rattle.rows_texts.specs.Names.{keyOf}
+use Rattle.rows.specs.RowKinds.{leadsComponent}
 use Rattle.names_slots.specs.Marks.{mayHold}
-use Rattle.names.specs.Names.{leadsComponent}
-use Rattle.names.specs.Marks.{keyOf}
 use Rattle.write.specs.Writable.{namedIn, twice}
 
 -- a row names a doubtful component, one whose hash may have been marked in ds, that a row behind it names again

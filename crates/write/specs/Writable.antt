@@ -3,6 +3,9 @@ use Prim.Native.Nat.{ℕ}
 use mathlib.Core.List.{List, [], _∷_}
 use mathlib.Core.Bool.{Bool, true, false, cond, not, _&&_, _||_}
 use lib.IntN.{ℤ}
+use Rattle.rows_texts.specs.Names.{sameNames}
+use Rattle.rows.specs.RowKinds.{leadsComponent}
+use Rattle.rows.specs.Columns.{typeInRow, pointIn}
 use Rattle.law.specs.Fits.{under}
 use Rattle.law.specs.declared.Rules.{Rules}
 use Rattle.order.specs.Automaton.{start, accepting, accepted, typeAt, stepped}
@@ -10,8 +13,6 @@ use Rattle.order.specs.declared.State.{State}
 use Rattle.order.specs.declared.Reason.the-variants.{Unfit}
 use Rattle.order.specs.declared.Outcome.{Outcome}
 use Rattle.order.specs.declared.Outcome.the-variants.{Next, Refused}
-use Rattle.walk.specs.Judging.{typeInRow, pointIn}
-use Rattle.names.specs.Names.{leadsComponent, sameNames}
 use Rattle.write_columns.specs.Columns.{kindIn, rowFits}
 use Rattle.write.specs.declared.Stood.{Stood}
 

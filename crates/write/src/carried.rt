@@ -2,11 +2,11 @@
 use crate::Stood;
 use law::Context;
 use law::Rules;
-use line_rows::WIDTH;
 use order::Outcome;
 use order::Reason;
 use order::Stage;
 use order::State;
+use rows::WIDTH;
 ghost use mathlib.Core.Path.{_≡_};
 ghost use Prim.Native.Nat.{_/_, _<_};
 ghost use lib.ListN.{length};
@@ -42,14 +42,8 @@ fn step(v: Rules, bytes: &[u8], st: State, row: [i64; WIDTH]) -> Outcome
     if !write_columns::row_fits(c, bytes, row) {
         return Outcome::Refused(Reason::Unfit);
     }
-    let kind = number::magnitude(row[0]);
-    order_states::advance(
-        v,
-        st,
-        kind,
-        walk::line::type_in(row),
-        walk::line::point_in(row),
-    )
+    let kind = number::magnitude(row[rows::KIND]);
+    order_states::stepped(v, st, kind, rows::file_type_in(row), rows::point_in(row))
 }
 
 // Whether a row stands, and the state after it.

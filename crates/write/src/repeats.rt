@@ -1,19 +1,20 @@
 // Components by name, among rows: no two share both geometry and part.
 use crate::carried;
-use line_rows::WIDTH;
 use names::DOUBTS;
 use names::FEW;
 use names::MARKS;
 use names::SMALL;
 use names::is_again;
 use names::is_doubtful;
-use names::leads_component;
-use names::same_names;
+use rows::WIDTH;
+use rows::leads_component;
+use rows_texts::same_names;
 ghost use mathlib.Core.Path.{_≡_};
 ghost use Prim.Native.Nat.{_<_};
 ghost use lib.ListN.{length, drop};
-ghost use Rattle.names.specs.Names.{leadsComponent};
-ghost use Rattle.names.specs.Marks.{keyOf, heldIf, markedIf};
+ghost use Rattle.rows_texts.specs.Names.{keyOf};
+ghost use Rattle.rows.specs.RowKinds.{leadsComponent};
+ghost use Rattle.names.specs.Marks.{heldIf, markedIf};
 ghost use Rattle.write.specs.WholeRows.{wholeRows};
 ghost use Rattle.write.specs.Writable.{namesIt, namedIn, twice};
 ghost use Rattle.write.specs.Marks.{againAmong, twiceAmong, Told, Doubted};

@@ -1,8 +1,8 @@
 // The lines of rows: how many bytes they take, and the lines themselves.
 use crate::carried;
 use law::Rules;
-use line_rows::WIDTH;
 use order::LIMIT;
+use rows::WIDTH;
 ghost use mathlib.Core.Path.{_≡_};
 ghost use mathlib.Core.Bool.{true};
 ghost use Prim.Native.Nat.{_≤_};

@@ -2,7 +2,7 @@
 use Prim.Native.Nat.{ℕ, suc, _+_, _-_, _^_, _≤_, _<_}
 use mathlib.Core.Path.{_≡_, refl, sym, ap, _∙_}
 use mathlib.Core.List.{List, [], _∷_}
-use mathlib.Core.Bool.{Bool, true, false, not, _&&_, _||_}
+use mathlib.Core.Bool.{Bool, true, false, not, _&&_, _||_, and-true}
 use native.Mathlib.Numerals.{add-one}
 use native.Mathlib.Omega.{arith}
 use mir.Syntax.{w64}
@@ -13,11 +13,15 @@ use lib.Dec.{leb, eqb}
 use lib.IntN.{ℤ, pos, natAbs}
 use lib.ListN.{length, take, drop, getD, drop-of-length-le, List·getD-eq-default}
 use lib.Seq.{drop-cons}
+use Rattle.rows.specs.Columns.{columnAt}
+use Rattle.basics.proofs.Bytes.{bytes-self}
+use Rattle.basics.specs.Integers.{eqZ}
+use Rattle.basics.proofs.Integers.{back}
+use Rattle.basics.proofs.Lists.{all-more, all-stop, all-over}
+use Rattle.basics.proofs.Bools.{and-left, and-right}
 use Rattle.law.specs.Bytes.{allOf, permitted, ascii}
-use Rattle.text.proofs.Lists.{and-left, and-right, all-more, all-stop, all-over}
 use Rattle.law.specs.Limits.{largestLength, largestInteger, below}
 use Rattle.law.specs.Dates.{isDate}
-use Rattle.number.proofs.SignLaws.{back}
 use Rattle.law.specs.Values.{text}
 use Rattle.law.specs.Words.{wordsOf, sameBytes, wordAt}
 use Rattle.form_words.specs.Padded.{trimmed, wordRow}
@@ -28,25 +32,12 @@ use Rattle.law.specs.declared.Words.{Words}
 use Rattle.law.specs.declared.Limit.{Limit}
 use Rattle.law.specs.declared.FieldType.{FieldType}
 use Rattle.law.specs.declared.FieldType.the-variants.{Text as T, Reference as Ref, Date as D, Integer as I, Number as N, Word as W}
-use Rattle.order_loops.specs.Loops.{eqZ}
 use Rattle.form_words.proofs.RowLaws.{word-held}
-use Rattle.shown_spelling.proofs.WordSpelling.{same-refl}
-use Rattle.walk.specs.Judging.{columnAt}
 use Rattle.write_columns.specs.Columns.{liesIn, rangeFits, integerFits, numberFits, wordFits, fieldFits, columnFits, allZero}
 
 -- a byte of a text
 pub text-byte : (b : ℕ) (x : Bool) → x ≡ permitted b → (x && not (eqb b 34)) ≡ textByte b
 text-byte b x e = rw e
-
--- BOARD in a board
-module _ (c : Context) (s : List ℕ) (x : Bool) (e : x ≡ isBoard (c .file)) where
-  pub barred-by : (y : Bool) → x ≡ true → y ≡ sameBytes (ascii "BOARD") s → y ≡ barred c s
-  unfolding barred
-  barred-by y h i = rw (sym e ∙ h) i
-
-  pub barred-not : x ≡ false → false ≡ barred c s
-  unfolding barred
-  barred-not h = rw (sym e ∙ h)
 
 -- a range
 module _ (n : ℕ) (a l : ℤ) (x y : Bool) (fa : SFits w64 a) (fl : SFits w64 l) (e : x ≡ below (back a)) (f : y ≡ below (back l)) where
@@ -99,17 +90,10 @@ module _ (v : Rules) (l : Words) (z : ℤ) (x : Bool) (f : SFits w64 z) (e : x �
       rw (a, d) (sym (empty-length (wordAt (wordsOf v l) (natAbs z))))
 
 -- past the last column
-pub column-past : (row : List ℤ) (i : ℕ) → length row ≤ i → pos 0 ≡ columnAt row i
-column-past row i h = sym (List·getD-eq-default row (pos 0) {n = i} (omega arith))
-
 -- bytes at a field
 text-good : (t : FieldType) (s : List ℕ) → goodText t s ≡ allOf textByte s
 unfolding goodText meaning
-text-good t s = rw (same-refl s) (and-true (allOf textByte s))
-  where
-    and-true : (b : Bool) → (b && true) ≡ b
-    and-true true = refl
-    and-true false = refl
+text-good t s = rw (bytes-self s) (and-true (allOf textByte s))
 
 module _ (c : Context) (t : FieldType) (s : List ℕ) where
   pub holds-text : (x : Bool) → t ≡ T → x ≡ allOf textByte s → x ≡ fits c t (text s)

@@ -12,16 +12,16 @@ use borrow.Author.Tests.{not-true, not-false}
 use lib.IntN.{ℤ, natAbs}
 use lib.ListN.{length, drop, drop-of-length-le}
 use lib.Seq.{drop-cons}
+use Rattle.rows.specs.Columns.{columnAt, kindColumn}
+use Rattle.basics.proofs.Integers.{back}
 use Rattle.law.specs.Limits.{below}
-use Rattle.number.proofs.SignLaws.{back}
 use Rattle.law.specs.Layouts.{typesOf}
 use Rattle.form_layouts.specs.Letters.{widthOf, widths, typeAt, isKind}
 use Rattle.law.specs.declared.Context.{Context}
 use Rattle.law.specs.declared.FieldType.{FieldType}
 use Rattle.law.specs.declared.FieldType.the-variants.{Text as T}
-use Rattle.form_layouts.proofs.KindLaws.{nine}
+use Rattle.form_layouts.proofs.KindLaws.{nine, type-here, widths-here}
 use Rattle.law.specs.Rows.{width}
-use Rattle.walk.specs.Judging.{columnAt}
 use Rattle.write_columns.specs.Columns.{columnFits, allZero, fieldsFit, rowFits}
 
 -- the fields passed fit, and there is room for those that are left
@@ -48,17 +48,10 @@ module _ (c : Context) (kind : ℕ) (bytes : List ℕ) (row : List ℤ) (n i k :
     pub fit-type : i < length (typesOf (c .rules) kind)
     fit-type = omega (arith, r .count)
 
-    here : drop i (typesOf (c .rules) kind) ≡ typeAt (typesOf (c .rules) kind) i ∷ drop (i + 1) (typesOf (c .rules) kind)
-    here = rw (add-one i) (drop-cons (typesOf (c .rules) kind) i T (omega (arith, r .count)))
-
-    wide-here : widths (drop i (typesOf (c .rules) kind)) ≡ widthOf (typeAt (typesOf (c .rules) kind) i) + widths (drop (i + 1) (typesOf (c .rules) kind))
-    unfolding widths
-    wide-here = rw here
-
     module _ (t : FieldType) (e : t ≡ typeAt (typesOf (c .rules) kind) i) (x : Bool) (f : x ≡ columnFits c t bytes row k) where
       step : fieldsFit c bytes row (drop i (typesOf (c .rules) kind)) k ≡ (x && fieldsFit c bytes row (drop (i + 1) (typesOf (c .rules) kind)) (k + widthOf t))
       unfolding fieldsFit
-      step = rw (here, f, e)
+      step = rw (type-here (typesOf (c .rules) kind) i fit-type, f, e)
 
       pub fit-not : not x ≡ true → false ≡ fieldsFit c bytes row (typesOf (c .rules) kind) 1
       fit-not q = sym (rw (not-true x q) at step) ∙ r .left
@@ -69,25 +62,25 @@ module _ (c : Context) (kind : ℕ) (bytes : List ℕ) (row : List ℤ) (n i k :
           record {
             count = r .count;
             within = omega arith;
-            columns = omega (arith, r .columns, wide-here, a);
+            columns = omega (arith, r .columns, widths-here (typesOf (c .rules) kind) i fit-type, a);
             left = rw g (sym (rw (not-false x q) at step) ∙ r .left);
           }
 
       pub fit-fits : (w : ℕ) → w ≡ widthOf t → Fits w64 (k + w)
-      fit-fits w g = let a : w ≡ widthOf (typeAt (typesOf (c .rules) kind) i) = g ∙ ap widthOf e in omega (arith, r .columns, wide-here, a)
+      fit-fits w g = let a : w ≡ widthOf (typeAt (typesOf (c .rules) kind) i) = g ∙ ap widthOf e in omega (arith, r .columns, widths-here (typesOf (c .rules) kind) i fit-type, a)
 
 -- a row, by its kind
-module _ (c : Context) (bytes : List ℕ) (row : List ℤ) (x : Bool) (fz : SFits w64 (columnAt row 0)) (e : x ≡ below (back (columnAt row 0))) where
-  sign : x ≡ below (columnAt row 0)
-  sign = e ∙ rw (toZ-ofZ w64 (columnAt row 0) fz)
+module _ (c : Context) (bytes : List ℕ) (row : List ℤ) (x : Bool) (fz : SFits w64 (kindColumn row)) (e : x ≡ below (back (kindColumn row))) where
+  sign : x ≡ below (kindColumn row)
+  sign = e ∙ rw (toZ-ofZ w64 (kindColumn row) fz)
 
   pub row-below : x ≡ true → false ≡ rowFits c bytes row
   unfolding rowFits
   row-below h = rw (sym sign ∙ h)
 
-  module _ (h : x ≡ false) (k : ℕ) (f : k ≡ natAbs (back (columnAt row 0))) (y : Bool) (g : y ≡ isKind (c .rules) k) where
-    kind-is : k ≡ natAbs (columnAt row 0)
-    kind-is = f ∙ rw (toZ-ofZ w64 (columnAt row 0) fz)
+  module _ (h : x ≡ false) (k : ℕ) (f : k ≡ natAbs (back (kindColumn row))) (y : Bool) (g : y ≡ isKind (c .rules) k) where
+    kind-is : k ≡ natAbs (kindColumn row)
+    kind-is = f ∙ rw (toZ-ofZ w64 (kindColumn row) fz)
 
     pub row-unknown : not y ≡ true → false ≡ rowFits c bytes row
     unfolding rowFits

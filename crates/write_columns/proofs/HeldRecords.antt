@@ -9,6 +9,8 @@ use borrow.Author.Tests.{le-leb}
 use lib.IntN.{ℤ, pos}
 use lib.ListN.{length, getD, take, drop, replicate}
 use lib.Seq.{drop-drop, getD-drop}
+use Rattle.rows.specs.Columns.{columnAt}
+use Rattle.basics.specs.Integers.{eqZ}
 use Rattle.law.specs.Values.{Value, number, word, text, Rec}
 use Rattle.law.specs.Layouts.{Layout, layoutOf, typesBy, typesOf}
 use Rattle.form_layouts.specs.Letters.{widthOf, knownBy, isKind}
@@ -18,8 +20,6 @@ use Rattle.law.specs.declared.Words.{Words}
 use Rattle.law.specs.declared.FieldType.{FieldType}
 use Rattle.law.specs.declared.FieldType.the-variants.{Text as T, Reference as Ref, Date as D, Integer as I, Number as N, Word as W}
 use Rattle.law.specs.Rows.{isText, isNumber, Means, none, aNumber, aWord, aDate, aText, Holds}
-use Rattle.order_loops.specs.Loops.{eqZ}
-use Rattle.walk.specs.Judging.{columnAt}
 use Rattle.write_columns.specs.Columns.{liesIn, rangeFits, integerFits, numberFits, wordFits, fieldFits, allZero, fieldsFit, rowFits}
 use Rattle.write_columns.specs.Records.{valueIn, valuesIn, recordIn}
 

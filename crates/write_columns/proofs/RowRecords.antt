@@ -11,7 +11,10 @@ use lib.Dec.{leb}
 use lib.IntN.{ℤ, pos, negsuc, natAbs}
 use lib.ListN.{length, drop, replicate, length-append, length-replicate}
 use lib.Seq.{drop-cons}
-use Rattle.text.proofs.Lists.{and-left, and-right}
+use Rattle.rows.specs.Columns.{columnAt, kindColumn}
+use Rattle.basics.proofs.Integers.{eqZ-true}
+use Rattle.basics.specs.Integers.{eqZ}
+use Rattle.basics.proofs.Bools.{and-left, and-right}
 use Rattle.law.specs.Limits.{below}
 use Rattle.law.specs.Values.{Value, number, word, text}
 use Rattle.law.specs.Layouts.{Layout, layoutOf, typesBy, typesOf}
@@ -23,8 +26,6 @@ use Rattle.law.specs.declared.FieldType.{FieldType}
 use Rattle.law.specs.declared.FieldType.the-variants.{Text as T, Reference as Ref, Date as D, Integer as I, Number as N, Word as W}
 use Rattle.form_layouts.proofs.KindLaws.{nine}
 use Rattle.law.specs.Rows.{width, isText, Means, none, aNumber, aWord, aDate, aText, Holds}
-use Rattle.order_loops.specs.Loops.{eqZ}
-use Rattle.walk.specs.Judging.{columnAt}
 use Rattle.rows_texts.specs.Texts.{textAt}
 use Rattle.write_columns.specs.Columns.{liesIn, rangeFits, integerFits, numberFits, wordFits, columnFits, allZero, fieldsFit, kindIn, rowFits}
 use Rattle.write_columns.specs.Records.{valueIn, valuesIn, recordIn}
@@ -43,15 +44,10 @@ or-right true b h = absurd (false≢true h)
 or-right false b h = h
 
 -- columns that are 0
-zero-is : (z : ℤ) → eqZ z (pos 0) ≡ true → z ≡ pos 0
-unfolding eqZ
-zero-is (pos n) h = ap pos (eqb-true n 0 h)
-zero-is (negsuc n) h = absurd (false≢true h)
-
 zeros : (zs : List ℤ) → allZero zs ≡ true → zs ≡ replicate (length zs) (pos 0)
 unfolding allZero
 zeros [] h = refl
-zeros (z ∷ zs) h = rw (zero-is z (and-left (eqZ z (pos 0)) (allZero zs) h)) (ap (λ (l : List ℤ). pos 0 ∷ l) (zeros zs (and-right (eqZ z (pos 0)) (allZero zs) h)))
+zeros (z ∷ zs) h = rw (eqZ-true z (pos 0) (and-left (eqZ z (pos 0)) (allZero zs) h)) (ap (λ (l : List ℤ). pos 0 ∷ l) (zeros zs (and-right (eqZ z (pos 0)) (allZero zs) h)))
 
 module _ (bytes : List ℕ) (a l : ℤ) (h : liesIn (length bytes) a l ≡ true) where
   start-plain : a ≡ pos (natAbs a)
@@ -184,7 +180,7 @@ module _ (c : Context) (bytes : List ℕ) (row : List ℤ) (wide : length row �
       × WellFormed c (recordIn (c .rules) bytes row)
   unfolding rowFits
   fits-record f =
-      let z = columnAt row 0 in
+      let z = kindColumn row in
       let p : z ≡ pos (kindIn row) = not-below z (and-left (not (below z)) _ f) in
       let g = and-right (not (below z)) (isKind (c .rules) (kindIn row) && fieldsFit c bytes row (typesOf (c .rules) (kindIn row)) 1) f in
       let h = all-held (typesOf (c .rules) (kindIn row)) 1 (omega (arith, nine (c .rules) (kindIn row))) (and-right (isKind (c .rules) (kindIn row)) _ g) in

@@ -5,6 +5,8 @@ use mathlib.Core.Bool.{Bool, true, not, _&&_, _||_}
 use lib.Dec.{leb}
 use lib.IntN.{ℤ, pos, natAbs}
 use lib.ListN.{length, drop}
+use Rattle.rows.specs.Columns.{columnAt, kindColumn}
+use Rattle.basics.specs.Integers.{eqZ}
 use Rattle.law.specs.Limits.{largestLength, largestInteger, below}
 use Rattle.law.specs.Values.{text}
 use Rattle.form_layouts.specs.Letters.{widthOf, isKind}
@@ -16,8 +18,6 @@ use Rattle.law.specs.declared.Words.{Words}
 use Rattle.law.specs.declared.Limit.{Limit}
 use Rattle.law.specs.declared.FieldType.{FieldType}
 use Rattle.law.specs.declared.FieldType.the-variants.{Text as T, Reference as Ref, Date as D, Integer as I, Number as N, Word as W}
-use Rattle.order_loops.specs.Loops.{eqZ}
-use Rattle.walk.specs.Judging.{columnAt}
 use Rattle.rows_texts.specs.Texts.{textAt}
 
 -- a start and a length, neither below zero, whose end is not past n bytes
@@ -61,8 +61,8 @@ fieldsFit c bytes row (t ∷ ts) i = columnFits c t bytes row i && fieldsFit c b
 
 -- the kind of a row
 abbrev pub kindIn : List ℤ → ℕ
-kindIn row = natAbs (columnAt row 0)
+kindIn row = natAbs (kindColumn row)
 
 -- a row of a kind that some section has
 unfoldable pub rowFits : Context → List ℕ → List ℤ → Bool
-rowFits c bytes row = not (below (columnAt row 0)) && (isKind (c .rules) (kindIn row) && fieldsFit c bytes row (typesOf (c .rules) (kindIn row)) 1)
+rowFits c bytes row = not (below (kindColumn row)) && (isKind (c .rules) (kindIn row) && fieldsFit c bytes row (typesOf (c .rules) (kindIn row)) 1)

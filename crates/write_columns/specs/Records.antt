@@ -2,13 +2,13 @@
 use Prim.Native.Nat.{ℕ, _+_}
 use mathlib.Core.List.{List, [], _∷_}
 use lib.IntN.{ℤ, natAbs}
+use Rattle.rows.specs.Columns.{columnAt}
 use Rattle.law.specs.Values.{Value, number, word, text, Rec}
 use Rattle.form_layouts.specs.Letters.{widthOf}
 use Rattle.law.specs.Layouts.{typesOf}
 use Rattle.law.specs.declared.Rules.{Rules}
 use Rattle.law.specs.declared.FieldType.{FieldType}
 use Rattle.law.specs.declared.FieldType.the-variants.{Text as T, Reference as Ref, Date as D, Integer as I, Number as N, Word as W}
-use Rattle.walk.specs.Judging.{columnAt}
 use Rattle.rows_texts.specs.Texts.{textAt}
 use Rattle.write_columns.specs.Columns.{kindIn}
 

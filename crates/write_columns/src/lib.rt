@@ -1,21 +1,19 @@
 // Rows that are to be written: whether the columns of a row hold the values of a record, over the bytes that are lent with them.
 use law::Context;
 use law::FieldType;
-use law::FileType;
 use law::Limit;
 use law::Rules;
 use law::Words;
-use line_rows::WIDTH;
 use number::Integer;
 use number::Length;
+use rows::WIDTH;
 ghost use mathlib.Core.Path.{_≡_};
 ghost use Prim.Native.Nat.{_<_};
 ghost use lib.ListN.{drop};
 ghost use Rattle.law.specs.Bytes.{allOf};
 ghost use Rattle.law.specs.Values.{text};
 ghost use Rattle.law.specs.Layouts.{typesOf};
-ghost use Rattle.law.specs.Fits.{textByte, isBoard, barred, fits};
-ghost use Rattle.walk.specs.Judging.{columnAt};
+ghost use Rattle.law.specs.Fits.{textByte, fits};
 ghost use Rattle.write_columns.specs.Columns.{liesIn, wordFits, integerFits, numberFits, rangeFits, fieldFits, columnFits, allZero, fieldsFit, rowFits};
 
 // Whether a byte may stand in a text: it is permitted, and no quote.
@@ -39,35 +37,13 @@ fn is_text(s: &[u8]) -> bool
     true
 }
 
-// Whether a file is a board.
-fn is_board(t: FileType) -> bool
-    ensures { λ r. ⌜ r ≡ isBoard t ⌝ }
-{
-    match t {
-        FileType::Board => true,
-        FileType::Panel => false,
-        FileType::Library => false,
-    }
-}
-
-// Whether bytes are BOARD, in a board.
-fn is_barred(c: Context, s: &[u8]) -> bool
-    ensures { λ r. ⌜ r ≡ barred c (now (s .entry)) ⌝ }
-{
-    let t = c.file;
-    if is_board(t) {
-        return line_fields::same(b"BOARD", s);
-    }
-    false
-}
-
 // Whether bytes may be held at a field of a type; none but texts and dates are held as bytes.
 fn holds_bytes(c: Context, t: FieldType, s: &[u8]) -> bool
     ensures { λ r. ⌜ r ≡ fits c t (text (now (s .entry))) ⌝ }
 {
     match t {
         FieldType::Text => is_text(s),
-        FieldType::Reference => is_text(s) & !is_barred(c, s),
+        FieldType::Reference => is_text(s) & !line_fields::is_barred(c, s),
         FieldType::Date => number_read::is_date(s),
         FieldType::Integer => false,
         FieldType::Number(_) => false,
@@ -143,22 +119,18 @@ fn field_fits(c: Context, t: FieldType, bytes: &[u8], a: i64, b: i64) -> bool
     }
 }
 
-// A column of a row, 0 past its last.
-pub fn column_at(row: &[i64], i: usize) -> i64
-    ensures { λ r. ⌜ r ≡ columnAt (now (row .entry)) i ⌝ }
-{
-    if i < row.len() {
-        return row[i];
-    }
-    0
-}
-
 // Whether a row holds a value of a type from a column on.
 fn column_fits(c: Context, t: FieldType, bytes: &[u8], row: &[i64], i: usize) -> bool
     requires { ⌜ i < 100 ⌝ }
     ensures { λ r. ⌜ r ≡ columnFits c t (now (bytes .entry)) (now (row .entry)) i ⌝ }
 {
-    field_fits(c, t, bytes, column_at(row, i), column_at(row, i + 1))
+    field_fits(
+        c,
+        t,
+        bytes,
+        rows::column_at(row, i),
+        rows::column_at(row, i + 1),
+    )
 }
 
 // Whether the columns of a row from one on are 0.
@@ -168,7 +140,7 @@ fn is_zero_from(row: [i64; WIDTH], from: usize) -> bool
     let mut i = from;
     while i < WIDTH {
         let z = row[i];
-        if !order_loops::same(z, 0) {
+        if !basics::same_integers(z, 0) {
             return false;
         }
         i += 1;
@@ -186,7 +158,7 @@ fn fields_fit(c: Context, kind: u64, bytes: &[u8], row: [i64; WIDTH]) -> bool
     let mut i = 0;
     let mut k = 1;
     while i < n {
-        let t = form_layouts::type_in(v, kind, layout, i);
+        let t = form_layouts::field_type(v, kind, layout, i);
         if !column_fits(c, t, bytes, &row, k) {
             return false;
         }
@@ -201,7 +173,7 @@ pub fn row_fits(c: Context, bytes: &[u8], row: [i64; WIDTH]) -> bool
     ensures { λ r. ⌜ r ≡ rowFits c (now (bytes .entry)) row ⌝ }
 {
     let v = c.rules;
-    let z = row[0];
+    let z = row[rows::KIND];
     if number::is_below(z) {
         return false;
     }

@@ -9,12 +9,15 @@ use borrow.Author.Tests.{lt-leb, leb-true, leb-false, ne-eqb}
 use lib.Dec.{leb}
 use lib.IntN.{ℤ}
 use lib.ListN.{length}
+use Rattle.rows.proofs.EachKind.{each-kind}
+use Rattle.rows.specs.Columns.{columnAt}
+use Rattle.basics.proofs.Bytes.{bytes-true}
+use Rattle.basics.proofs.Tables.{allBelow, below-all}
+use Rattle.basics.proofs.Bools.{and-left, and-right, sameFlag, flag-eq}
 use Rattle.law.specs.Fields.{Field}
-use Rattle.text.proofs.Lists.{and-left, and-right}
-use Rattle.text.proofs.Tables.{allBelow, below-all}
 use Rattle.law.specs.Sections.{sectionNames, sections}
 use Rattle.law.specs.Words.{propWord, sameBytes, wordAt}
-use Rattle.law.specs.Kinds.{sectionOf, lineOf, roleOf}
+use Rattle.law.specs.Kinds.{sectionOf, lineOf, roleOf, lastKind}
 use Rattle.law.specs.Layouts.{Front, keyword, prop, plain, Layout, layoutOf, typesBy, typesOf}
 use Rattle.form_layouts.specs.Letters.{widthOf, knownBy, isKind}
 use Rattle.form_words.specs.Padded.{trimmed, rowTable, blankRow, nameRow}
@@ -22,10 +25,8 @@ use Rattle.law.specs.Fits.{isEmpty}
 use Rattle.law.specs.declared.Rules.{Rules}
 use Rattle.law.specs.declared.Rules.the-variants.{Idf3}
 use Rattle.law.specs.declared.FieldType.{FieldType}
-use Rattle.form.proofs.CompareLaws.{same-eq}
 use Rattle.law.specs.Canonical.{canonicalField, canonicalFields, canonicalLine, canonicalBy, canonicalRecord, written, joined, withFront}
 use Rattle.order.specs.Automaton.{roleNumber}
-use Rattle.walk.specs.Judging.{columnAt}
 use Rattle.write_columns.specs.Columns.{kindIn}
 use Rattle.write_columns.specs.Records.{valueIn, valuesIn}
 use Rattle.write_lines.specs.LineText.{lineText, markOf, nameAt, behindOf, frontText, valueText, endedText, fieldsText}
@@ -81,15 +82,6 @@ abbrev noTypes : List FieldType → Bool
 noTypes [] = true
 noTypes (t ∷ ts) = false
 
-abbrev sameFlag : Bool → Bool → Bool
-sameFlag true b = b
-sameFlag false b = not b
-
-flag-eq : (a b : Bool) → sameFlag a b ≡ true → a ≡ b
-flag-eq true b h = sym h
-flag-eq false true h = absurd (false≢true h)
-flag-eq false false h = refl
-
 abbrev rightBy : Option Layout → ℕ → ℕ → Bool
 rightBy none n s = true
 rightBy (some l) n s =
@@ -99,20 +91,16 @@ rightBy (some l) n s =
 abbrev right : Rules → ℕ → Bool
 right v k = rightBy (layoutOf v k) (roleNumber (roleOf v k)) (sectionOf v k)
 
-table-right : (v : Rules) → allBelow 160 (right v) ≡ true
+table-right : (v : Rules) → allBelow (suc lastKind) (right v) ≡ true
 unfolding layoutOf roleOf sectionOf lineOf sections sectionNames wordAt trimmed nameRow rowTable blankRow sameBytes isEmpty
 table-right Idf3 = refl
 
-beyond : (v : Rules) (k : ℕ) → 159 < k → right v k ≡ true
+beyond : (v : Rules) (k : ℕ) → leb k lastKind ≡ false → right v k ≡ true
 unfolding layoutOf sectionOf
-beyond Idf3 k h = rw (lt-leb k 159 h)
+beyond Idf3 k h = rw h
 
 all-right : (v : Rules) (k : ℕ) → right v k ≡ true
-all-right v k = go (leb k 159) refl
-  where
-    go : (t : Bool) → leb k 159 ≡ t → right v k ≡ true
-    go true e = below-all 160 (right v) (table-right v) k (omega (arith, leb-true k 159 e))
-    go false e = beyond v k (omega (arith, leb-false k 159 e))
+all-right v = each-kind (right v) (table-right v) (beyond v)
 
 some-fields : (v : Rules) (r : Front) (ts : List FieldType) (bytes : List ℕ) (row : List ℤ) (i : ℕ) → not (isEmpty (wordBefore r) && noTypes ts) ≡ true
     → noFields (withFront r (canonicalFields v ts (valuesIn bytes row ts i))) ≡ false
@@ -142,7 +130,7 @@ module _ (v : Rules) (bytes : List ℕ) (row : List ℤ) (known : isKind v (kind
           let w = wordBefore (l .front) in
           let m = markOf role ++ trimmed (nameAt role (sectionOf v k)) in
           let b = behindOf (length (l .types)) in
-          let a = same-eq w m (and-left (sameBytes w m) _ r) in
+          let a = bytes-true w m (and-left (sameBytes w m) _ r) in
           let q = and-right (sameBytes w m) (sameFlag (isEmpty w) (isEmpty (markOf role)) && not (isEmpty w && noTypes (l .types))) r in
           let e = flag-eq (isEmpty w) (isEmpty (markOf role)) (and-left (sameFlag (isEmpty w) (isEmpty (markOf role))) _ q) in
           let n = and-right (sameFlag (isEmpty w) (isEmpty (markOf role))) (not (isEmpty w && noTypes (l .types))) q in

@@ -11,11 +11,12 @@ use borrow.Author.Tests.{ne-eqb, leb-true, ltb-true, ltb-false, lt-ltb, le-ltb}
 use lib.Dec.{ltb, leb, eqb}
 use lib.IntN.{ℤ, natAbs}
 use lib.ListN.{length, take, drop, length-append, length-take, length-drop}
+use Rattle.rows.specs.Columns.{columnAt}
+use Rattle.basics.proofs.Integers.{back}
+use Rattle.basics.proofs.Bools.{and-left}
 use Rattle.law.specs.Bytes.{ascii}
 use Rattle.law.specs.Fields.{field}
-use Rattle.text.proofs.Lists.{and-left}
 use Rattle.law.specs.Limits.{largestLength, largestInteger}
-use Rattle.number.proofs.SignLaws.{back}
 use Rattle.number_print.specs.Printing.{Wrote}
 use Rattle.law.specs.Printing.{printedCount, printedInteger}
 use Rattle.number_print.proofs.PrintLaws.{wrote-length, wrote-more}
@@ -32,7 +33,6 @@ use Rattle.law.specs.declared.FieldType.the-variants.{Text as T, Reference as R
 use Rattle.form_words.proofs.RowLaws.{word-held}
 use Rattle.law.specs.Canonical.{needsQuotes, versionText, printedNumber, canonicalField, written}
 use Rattle.order.specs.Automaton.{roleNumber}
-use Rattle.walk.specs.Judging.{columnAt}
 use Rattle.rows_texts.specs.Texts.{textAt}
 use Rattle.law.specs.Answers.{limit}
 use Rattle.write_columns.specs.Columns.{liesIn, rangeFits, integerFits, numberFits, fieldFits, columnFits}

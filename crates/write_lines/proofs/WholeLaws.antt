@@ -11,9 +11,10 @@ use mir.ValLaws.{toZ-ofZ}
 use lib.IntN.{ℤ, natAbs}
 use lib.ListN.{length, drop, length-append, length-drop, drop-of-length-le}
 use lib.Seq.{drop-cons}
-use Rattle.text.proofs.Lists.{and-left, and-right}
+use Rattle.rows.specs.Columns.{columnAt, kindColumn}
+use Rattle.basics.proofs.Integers.{back}
+use Rattle.basics.proofs.Bools.{and-left, and-right}
 use Rattle.law.specs.Limits.{below}
-use Rattle.number.proofs.SignLaws.{back}
 use Rattle.number_print.specs.Printing.{Wrote}
 use Rattle.number_print.proofs.PrintLaws.{wrote-length, wrote-more}
 use Rattle.law.specs.Kinds.{sectionOf, roleOf}
@@ -22,10 +23,9 @@ use Rattle.form_layouts.specs.Letters.{widthOf, widths, typeAt, isKind}
 use Rattle.law.specs.declared.Rules.{Rules}
 use Rattle.law.specs.declared.FieldType.{FieldType}
 use Rattle.law.specs.declared.FieldType.the-variants.{Text as T}
-use Rattle.form_layouts.proofs.KindLaws.{nine}
+use Rattle.form_layouts.proofs.KindLaws.{nine, type-here, widths-here}
 use Rattle.law.specs.Rows.{width}
 use Rattle.order.specs.Automaton.{roleNumber}
-use Rattle.walk.specs.Judging.{columnAt}
 use Rattle.law.specs.Answers.{limit}
 use Rattle.write_columns.specs.Columns.{columnFits, fieldsFit, kindIn, rowFits}
 use Rattle.write_lines.specs.LineText.{lineText, anywhere, upTo, behindOf, frontText, valueText, endedText, columnText, fieldsText}
@@ -53,13 +53,13 @@ pub record Putting (v : Rules) (bytes : List ℕ) (row : List ℤ) (o p : List �
   pub left : done ++ fieldsText v bytes row (drop i (typesOf v kind)) k ≡ fieldsText v bytes row (typesOf v kind) 1
 
 -- before the first field
-module _ (v : Rules) (bytes : List ℕ) (row : List ℤ) (f : rowFits (anywhere v) bytes row ≡ true) (s : SFits w64 (columnAt row 0)) (kind : ℕ) (e : kind ≡ natAbs (back (columnAt row 0))) where
+module _ (v : Rules) (bytes : List ℕ) (row : List ℤ) (f : rowFits (anywhere v) bytes row ≡ true) (s : SFits w64 (kindColumn row)) (kind : ℕ) (e : kind ≡ natAbs (back (kindColumn row))) where
   kind-is : kind ≡ kindIn row
-  kind-is = e ∙ ap natAbs (toZ-ofZ w64 (columnAt row 0) s)
+  kind-is = e ∙ ap natAbs (toZ-ofZ w64 (kindColumn row) s)
 
   known : isKind v (kindIn row) && fieldsFit (anywhere v) bytes row (typesOf v (kindIn row)) 1 ≡ true
   unfolding rowFits
-  known = and-right (not (below (columnAt row 0))) _ f
+  known = and-right (not (below (kindColumn row))) _ f
 
   pieces : (n : ℕ) → n ≡ length (typesOf v kind) → lineText v bytes row ≡ frontText (roleNumber (roleOf v kind)) (sectionOf v kind) n ++ fieldsText v bytes row (typesOf v kind) 1
   pieces n g = rw (g, kind-is) (line-pieces v bytes row (and-left (isKind v (kindIn row)) _ known))
@@ -107,40 +107,33 @@ module _ (v : Rules) (bytes : List ℕ) (row : List ℤ) (kind n i k : ℕ) (r :
     left-type : i < length (typesOf v kind)
     left-type = omega (arith, r .count)
 
-    here : drop i (typesOf v kind) ≡ typeAt (typesOf v kind) i ∷ drop (i + 1) (typesOf v kind)
-    here = rw (add-one i) (drop-cons (typesOf v kind) i T (omega (arith, r .count)))
-
     behind : length (drop (i + 1) (typesOf v kind)) ≡ n - i - 1
     behind = omega (arith, length-drop (i + 1) (typesOf v kind), r .count)
-
-    wide-here : widths (drop i (typesOf v kind)) ≡ widthOf (typeAt (typesOf v kind) i) + widths (drop (i + 1) (typesOf v kind))
-    unfolding widths
-    wide-here = rw here
 
     module _ (t : FieldType) (e : t ≡ typeAt (typesOf v kind) i) where
       fit-here : columnFits (anywhere v) t bytes row k && fieldsFit (anywhere v) bytes row (drop (i + 1) (typesOf v kind)) (k + widthOf t) ≡ true
       unfolding fieldsFit
-      fit-here = rw e (rw here at (r .fit))
+      fit-here = rw e (rw (type-here (typesOf v kind) i left-type) at (r .fit))
 
       left-fits : columnFits (anywhere v) t bytes row k ≡ true
       left-fits = and-left (columnFits (anywhere v) t bytes row k) _ fit-here
 
       text-here : fieldsText v bytes row (drop i (typesOf v kind)) k ≡ columnText v t bytes row k (n - i - 1) ++ fieldsText v bytes row (drop (i + 1) (typesOf v kind)) (k + widthOf t)
       unfolding fieldsText
-      text-here = rw (here, e, sym behind)
+      text-here = rw (type-here (typesOf v kind) i left-type, e, sym behind)
 
       module _ (w : ℕ) (g : w ≡ widthOf t) where
         wide : w ≡ widthOf (typeAt (typesOf v kind) i)
         wide = g ∙ ap widthOf e
 
         left-add : Fits w64 (k + w)
-        left-add = omega (arith, r .columns, wide-here, wide)
+        left-add = omega (arith, r .columns, widths-here (typesOf v kind) i left-type, wide)
 
         left-more : Left v bytes row kind n (i + 1) (k + w)
         left-more = record {
           count = r .count;
           within = omega arith;
-          columns = omega (arith, r .columns, wide-here, wide);
+          columns = omega (arith, r .columns, widths-here (typesOf v kind) i left-type, wide);
           fit = rw g (and-right (columnFits (anywhere v) t bytes row k) _ fit-here);
         }
 

@@ -5,6 +5,7 @@ use mathlib.Core.Bool.{cond, _||_}
 use lib.Dec.{ltb, eqb}
 use lib.IntN.{ℤ}
 use lib.ListN.{length}
+use Rattle.rows.specs.Columns.{columnAt}
 use Rattle.law.specs.Bytes.{ascii}
 use Rattle.law.specs.Words.{propWord}
 use Rattle.form_layouts.specs.Letters.{widthOf}
@@ -15,7 +16,6 @@ use Rattle.law.specs.declared.Context.{Context}
 use Rattle.law.specs.declared.FileType.the-variants.{Library}
 use Rattle.law.specs.declared.FieldType.{FieldType}
 use Rattle.law.specs.Canonical.{canonicalField, canonicalRecord, written}
-use Rattle.walk.specs.Judging.{columnAt}
 use Rattle.law.specs.Answers.{limit}
 use Rattle.write_columns.specs.Records.{valueIn, recordIn}
 

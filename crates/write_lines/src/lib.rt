@@ -4,15 +4,15 @@ pub mod values;
 
 use law::FieldType;
 use law::Rules;
-use line_rows::WIDTH;
 use order::LIMIT;
+use rows::WIDTH;
 ghost use mathlib.Core.Path.{_≡_};
 ghost use mathlib.Core.Bool.{true};
 ghost use Prim.Native.Nat.{_+_, _≤_, _<_};
 ghost use lib.ListN.{length};
+ghost use Rattle.rows.specs.Columns.{columnAt};
 ghost use Rattle.law.specs.Layouts.{typesOf};
 ghost use Rattle.number_print.specs.Printing.{Wrote};
-ghost use Rattle.walk.specs.Judging.{columnAt};
 ghost use Rattle.law.specs.Answers.{limit};
 ghost use Rattle.write_columns.specs.Columns.{columnFits, fieldsFit, rowFits};
 ghost use Rattle.write_lines.specs.LineText.{lineText, anywhere, upTo, valueText, columnText, fieldsText};
@@ -37,8 +37,8 @@ fn with_column(sum: usize, v: Rules, t: FieldType, bytes: &[u8], row: &[i64], i:
     requires { ⌜ (sum ≤ limit + 1) × (i < 100) × (columnFits (anywhere v) t (now bytes) (now row) i ≡ true) ⌝ }
     ensures { λ r. ⌜ r ≡ upTo (sum + (length (valueText v t (now (bytes .entry)) (columnAt (now (row .entry)) i) (columnAt (now (row .entry)) (i + 1))) + 1)) ⌝ }
 {
-    let a = write_columns::column_at(row, i);
-    let b = write_columns::column_at(row, i + 1);
+    let a = rows::column_at(row, i);
+    let b = rows::column_at(row, i + 1);
     let n = values::value_len(v, t, bytes, a, b);
     longer(longer(sum, n), 1)
 }
@@ -57,8 +57,8 @@ fn put_column(
     requires { ⌜ (i < 100) × (columnFits (anywhere v) t (now bytes) (now row) i ≡ true) × (at + length (columnText v t (now bytes) (now row) i n) ≤ length (now out)) ⌝ }
     ensures { λ r. ⌜ Wrote (now (out .entry)) (now (out .exit)) at r (columnText v t (now (bytes .entry)) (now (row .entry)) i n) ⌝ }
 {
-    let a = write_columns::column_at(row, i);
-    let b = write_columns::column_at(row, i + 1);
+    let a = rows::column_at(row, i);
+    let b = rows::column_at(row, i + 1);
     values::put_ended(out, at, v, t, bytes, a, b, n)
 }
 
@@ -73,7 +73,7 @@ fn with_fields(sum: usize, v: Rules, kind: u64, bytes: &[u8], row: [i64; WIDTH])
     let mut i = 0;
     let mut k = 1;
     while i < n {
-        let t = form_layouts::type_in(v, kind, layout, i);
+        let t = form_layouts::field_type(v, kind, layout, i);
         len = with_column(len, v, t, bytes, &row, k);
         k += form_layouts::width_of(t);
         i += 1;
@@ -86,7 +86,7 @@ pub fn line_len(v: Rules, bytes: &[u8], row: [i64; WIDTH], sum: usize) -> usize
     requires { ⌜ (sum ≤ limit + 1) × (rowFits (anywhere v) (now bytes) row ≡ true) ⌝ }
     ensures { λ r. ⌜ r ≡ upTo (sum + length (lineText v (now (bytes .entry)) row)) ⌝ }
 {
-    let kind = number::magnitude(row[0]);
+    let kind = number::magnitude(row[rows::KIND]);
     let n = form_layouts::field_count(v, kind);
     let len = longer(sum, fronts::front_len(v, kind, n));
     with_fields(len, v, kind, bytes, row)
@@ -110,7 +110,7 @@ fn put_fields(
     let mut i = 0;
     let mut k = 1;
     while i < n {
-        let t = form_layouts::type_in(v, kind, layout, i);
+        let t = form_layouts::field_type(v, kind, layout, i);
         e = put_column(out, e, v, t, bytes, &row, k, n - i - 1);
         k += form_layouts::width_of(t);
         i += 1;
@@ -123,7 +123,7 @@ pub fn put_line(out: &mut [u8], at: usize, v: Rules, bytes: &[u8], row: [i64; WI
     requires { ⌜ (rowFits (anywhere v) (now bytes) row ≡ true) × (at + length (lineText v (now bytes) row) ≤ length (now out)) ⌝ }
     ensures { λ r. ⌜ Wrote (now (out .entry)) (now (out .exit)) at r (lineText v (now (bytes .entry)) row) ⌝ }
 {
-    let kind = number::magnitude(row[0]);
+    let kind = number::magnitude(row[rows::KIND]);
     let n = form_layouts::field_count(v, kind);
     let e = fronts::put_front(out, at, v, kind, n);
     put_fields(out, e, v, kind, bytes, row)

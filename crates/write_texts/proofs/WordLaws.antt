@@ -9,9 +9,9 @@ use borrow.Author.Tests.{eq-eqb, ne-eqb, not-true, not-false}
 use lib.Dec.{eqb}
 use lib.ListN.{length, take, drop, set, getD, length-append}
 use lib.Seq.{take-suc, take-all}
+use Rattle.basics.proofs.Lists.{at-cons, at-end}
 use Rattle.law.specs.Bytes.{allOf, begins}
 use Rattle.law.specs.Fields.{field}
-use Rattle.text.proofs.Lists.{at-cons, at-end}
 use Rattle.number_print.specs.Printing.{Wrote}
 use Rattle.number_print.proofs.PrintLaws.{wrote-length, wrote-more}
 use Rattle.law.specs.Fits.{isEmpty}

@@ -1,6 +1,6 @@
 -- `form_layouts::limit_of` meets its contract: each place has its limit. Assumes nothing.
 use mathlib.Core.Path.{refl}
-use Rattle.text.proofs.Tables.{at-number}
+use Rattle.basics.proofs.Tables.{at-number}
 use Rattle.form_layouts.specs.Letters.{limitAt}
 use Rattle.form_layouts.proofs.KindLaws.{limit-last}
 use Rattle.form_layouts.proofs.limit_of.Statement.{statement}

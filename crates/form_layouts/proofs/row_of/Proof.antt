@@ -3,15 +3,15 @@ use Prim.Native.Nat.{ℕ}
 use mathlib.Core.Path.{_≡_, refl}
 use native.Mathlib.Omega.{arith}
 use borrow.Author.Needs.{needs}
+use Rattle.basics.proofs.Tables.{Missed, below}
 use Rattle.law.specs.Bytes.{ascii}
 use Rattle.form_layouts.specs.Letters.{letterAt, layoutTable, rowOf}
 use Rattle.law.specs.declared.Rules.{Rules}
-use Rattle.text.proofs.Tables.{Missed, below}
 use Rattle.form_layouts.proofs.TableLaws.{row-at-letter, letter-from, letter-to}
 use Rattle.form_layouts.proofs.row_of.Statement.{statement}
 use Rattle.form_layouts.proofs.row_of.Tie as tie
 
-none : (v : Rules) (k l : ℕ) → l ≡ letterAt v k → Missed 65 16 l → ascii "00       " ≡ rowOf v k
+none : (v : Rules) (k l : ℕ) → l ≡ letterAt v k → Missed 65 16 l → ascii "0       " ≡ rowOf v k
 unfolding layoutTable
 none v k l e p =
     let h = letter-to v k l e in

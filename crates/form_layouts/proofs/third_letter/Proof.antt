@@ -3,8 +3,8 @@ use Prim.Native.Nat.{ℕ, _≤_}
 use mathlib.Core.Path.{_≡_, refl}
 use borrow.Author.Needs.{needs}
 use native.Mathlib.Omega.{arith}
+use Rattle.basics.proofs.Tables.{but-one}
 use Rattle.form_layouts.specs.Letters.{lineTable, lineLetter}
-use Rattle.text.proofs.Tables.{but-one}
 use Rattle.form_layouts.proofs.third_letter.Statement.{statement}
 use Rattle.form_layouts.proofs.third_letter.Tie as tie
 

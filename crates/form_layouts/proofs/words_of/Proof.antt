@@ -1,6 +1,6 @@
 -- `form_layouts::words_of` meets its contract: each place has its list. Assumes nothing.
 use mathlib.Core.Path.{refl}
-use Rattle.text.proofs.Tables.{at-number}
+use Rattle.basics.proofs.Tables.{at-number}
 use Rattle.form_layouts.specs.Letters.{wordsAt}
 use Rattle.form_layouts.proofs.KindLaws.{words-last}
 use Rattle.form_layouts.proofs.words_of.Statement.{statement}

@@ -6,7 +6,7 @@ use native.Mathlib.Omega.{arith}
 use borrow.Author.Needs.{needs}
 use borrow.Author.Tests.{leb-true}
 use lib.Dec.{leb}
-use Rattle.text.proofs.Lists.{and-left}
+use Rattle.basics.proofs.Bools.{and-left}
 use Rattle.law.specs.Words.{isSmall}
 use Rattle.form.specs.Compare.{capital}
 use Rattle.form_words.proofs.capital_of.Statement.{statement}

@@ -8,15 +8,15 @@ use Rattle.judge_stock.proofs.has_place.Statement.{statement}
 use Rattle.judge_stock.proofs.has_place.Tie as tie
 
 abbrev Inv-loop : tie.InvT-loop
-Inv-loop library places mechanical board x h from i₀ i = Looking library places mechanical board x h from i
+Inv-loop board library places mechanical x h from i₀ i = Looking board library places mechanical x h from i
 
 abbrev μ-loop : tie.MeasureT-loop
-μ-loop library places mechanical board x h from i₀ i = looks - i
+μ-loop board library places mechanical x h from i₀ i = looks - i
 
 ruleset laws = (look-start, look-none, look-within, look-stop, look-found, look-on, needs)
 
-key-requires : tie.Need-key-requires Inv-loop μ-loop
-key-requires c κs = search laws
+hash-name-requires : tie.Need-hash-name-requires Inv-loop μ-loop
+hash-name-requires c κs = search laws
 
 slot-of-requires : tie.Need-slot-of-requires Inv-loop μ-loop
 slot-of-requires c κs = search laws
@@ -57,4 +57,4 @@ returns-3 c = search laws
 pub has-place-spec : {M : Type 1} → statement M
 has-place-spec =
     tie.close
-    (tie.spec Inv-loop μ-loop key-requires slot-of-requires loop-holds add-e mul-e shared-slice-read-e returns shows-name-requires returns-2 add-i loop-less loop-again returns-3)
+    (tie.spec Inv-loop μ-loop hash-name-requires slot-of-requires loop-holds add-e mul-e shared-slice-read-e returns shows-name-requires returns-2 add-i loop-less loop-again returns-3)

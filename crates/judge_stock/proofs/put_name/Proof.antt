@@ -7,8 +7,8 @@ use Rattle.judge_stock.proofs.put_name.Tie as tie
 
 ruleset laws = (pack-small, name-put, name-not, placed-same-length, needs)
 
-key-requires : tie.Need-key-requires
-key-requires c κs = search laws
+hash-name-requires : tie.Need-hash-name-requires
+hash-name-requires c κs = search laws
 
 is-in-requires : tie.Need-is-in-requires
 is-in-requires c κs = search laws
@@ -34,4 +34,4 @@ returns-2 c = search laws
 pub put-name-spec : {M : Type 1} → statement M
 put-name-spec =
     tie.close
-    (tie.spec key-requires is-in-requires pack-row-requires tagged-requires place-requires same-length returns returns-2)
+    (tie.spec hash-name-requires is-in-requires pack-row-requires tagged-requires place-requires same-length returns returns-2)

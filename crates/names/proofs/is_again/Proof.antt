@@ -10,8 +10,8 @@ ruleset laws = (none-again, none-doubted, some-again, some-not-again, some-doubt
 returns : tie.Need-returns
 returns c = search laws
 
-key-requires : tie.Need-key-requires
-key-requires c κs = search laws
+hash-name-requires : tie.Need-hash-name-requires
+hash-name-requires c κs = search laws
 
 may-hold-requires : tie.Need-may-hold-requires
 may-hold-requires c κs = search laws
@@ -31,4 +31,4 @@ returns-3 c = search laws
 pub is-again-spec : {M : Type 1} → statement M
 is-again-spec =
     tie.close
-    (tie.spec returns key-requires may-hold-requires mark-requires same-length returns-2 returns-3)
+    (tie.spec returns hash-name-requires may-hold-requires mark-requires same-length returns-2 returns-3)

@@ -10,8 +10,8 @@ ruleset laws = (none-held, none-marked, none-doubted, some-held, some-clear, som
 returns : tie.Need-returns
 returns c = search laws
 
-key-requires : tie.Need-key-requires
-key-requires c κs = search laws
+hash-name-requires : tie.Need-hash-name-requires
+hash-name-requires c κs = search laws
 
 mark-requires : tie.Need-mark-requires
 mark-requires c κs = search laws
@@ -37,4 +37,4 @@ returns-3 c = search laws
 pub is-doubtful-spec : {M : Type 1} → statement M
 is-doubtful-spec =
     tie.close
-    (tie.spec returns key-requires mark-requires mark-requires-2 same-length same-length-2 returns-2 same-length-3 returns-3)
+    (tie.spec returns hash-name-requires mark-requires mark-requires-2 same-length same-length-2 returns-2 same-length-3 returns-3)

@@ -6,8 +6,9 @@ use lib.Signed.{ltZ}
 use mir.Syntax.{w64}
 use mir.Val.{SFits}
 use mir.ValLaws.{toZ-ofZ}
+use Rattle.basics.proofs.Integers.{back}
 use Rattle.law.specs.Limits.{below}
-use Rattle.number.proofs.SignLaws.{back, below-is}
+use Rattle.number.proofs.SignLaws.{below-is}
 use Rattle.number.proofs.is_below.Statement.{statement}
 use Rattle.number.proofs.is_below.Tie as tie
 

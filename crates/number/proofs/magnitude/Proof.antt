@@ -11,7 +11,7 @@ use lib.Signed.{ltZ, nonNeg}
 use mir.Syntax.{w64}
 use mir.Val.{Fits, SFits}
 use mir.ValLaws.{toZ-ofZ}
-use Rattle.number.proofs.SignLaws.{back}
+use Rattle.basics.proofs.Integers.{back}
 use Rattle.number.proofs.magnitude.Statement.{statement}
 use Rattle.number.proofs.magnitude.Tie as tie
 

@@ -11,7 +11,7 @@ use native.Mathlib.Omega.{arith}
 use lib.Dec.{eqb}
 use lib.ListN.{length, drop, getD}
 use Rattle.law.specs.Numbers.{isDigit}
-use Rattle.number.specs.Numbers.{decimals, judge}
+use Rattle.number.specs.Numbers.{decimals, toCount}
 use Rattle.number.specs.declared.NumberAnswer.{NumberAnswer}
 use Rattle.number.specs.declared.NumberAnswer.the-variants.{NotNumber}
 use Rattle.number_read.proofs.NumberLaws.{digit-low, digit-weight, decimals-end, decimals-bad, decimals-more}
@@ -27,7 +27,7 @@ abbrev μ-loop : tie.MeasureT-loop
 
 -- the loop's state, and what a turn adds: the byte's test `r`, and the byte `x`, widened
 module _ (s : List ℕ) (i y : ℕ) (neg fine : Bool) (w m : ℕ) (r : Bool) {g : NumberAnswer} (inv : decimals y neg fine w m (drop i s) ≡ g) where
-  finish : (a : NumberAnswer) → length s ≤ i → a ≡ judge y neg fine m → a ≡ g
+  finish : (a : NumberAnswer) → length s ≤ i → a ≡ toCount y neg fine m → a ≡ g
   finish a h e = e ∙ sym (decimals-end s i y neg fine w m h) ∙ inv
 
   bad : i < length s → r ≡ isDigit (getD s i 0) → not r ≡ true → NotNumber ≡ g
@@ -89,8 +89,8 @@ loop-less c = search laws
 loop-again : tie.Need-loop-again Inv-loop μ-loop
 loop-again c = search laws
 
-judged-requires : tie.Need-judged-requires Inv-loop μ-loop
-judged-requires c κs = search laws
+to-count-requires : tie.Need-to-count-requires Inv-loop μ-loop
+to-count-requires c κs = search laws
 
 returns-2 : tie.Need-returns-2 Inv-loop μ-loop
 returns-2 c = search laws
@@ -98,4 +98,4 @@ returns-2 c = search laws
 pub decimal-part-spec : {M : Type 1} → statement M
 decimal-part-spec =
     tie.close
-    (tie.spec Inv-loop μ-loop loop-holds shared-slice-read-b is-digit-requires returns wide-requires sub-m mul-m add-m add-i loop-less loop-again judged-requires returns-2)
+    (tie.spec Inv-loop μ-loop loop-holds shared-slice-read-b is-digit-requires returns wide-requires sub-m mul-m add-m add-i loop-less loop-again to-count-requires returns-2)

@@ -6,8 +6,9 @@ use borrow.Author.Needs.{needs}
 use lib.IntN.{pos, _-ℤ_}
 use mir.Syntax.{w64}
 use mir.Val.{toZ}
+use Rattle.basics.proofs.Integers.{back}
 use Rattle.number.specs.Signs.{signed}
-use Rattle.number.proofs.SignLaws.{back, cast-pos, minus-fits, minus-is}
+use Rattle.number.proofs.SignLaws.{cast-pos, minus-fits, minus-is}
 use Rattle.number_read.proofs.value.Statement.{statement}
 use Rattle.number_read.proofs.value.Tie as tie
 

@@ -7,6 +7,7 @@ use lib.Dec.{leb}
 use lib.IntN.{ℤ}
 use mir.ValLaws.{toZ-ofZ}
 use mir.Syntax.{w64}
+use Rattle.basics.proofs.Integers.{back}
 use Rattle.number.specs.Signs.{signed}
 use Rattle.law.specs.Limits.{largestInteger}
 use Rattle.number.specs.Limits.{integerOf}
@@ -16,7 +17,7 @@ use Rattle.number.specs.declared.IntegerAnswer.{IntegerAnswer}
 use Rattle.number.specs.declared.IntegerAnswer.the-variants.{Made, Beyond}
 use Rattle.number.specs.declared.WholeAnswer.{WholeAnswer}
 use Rattle.number.specs.declared.WholeAnswer.the-variants.{Whole, NotInteger}
-use Rattle.number.proofs.SignLaws.{back, abs-signed, signed-fits}
+use Rattle.number.proofs.SignLaws.{abs-signed, signed-fits}
 use Rattle.number_read.proofs.whole_of.Statement.{statement}
 use Rattle.number_read.proofs.whole_of.Tie as tie
 

@@ -12,7 +12,7 @@ use native.Mathlib.Nat.{mul-le-mul-right}
 use lib.ListN.{length, drop, getD}
 use Rattle.law.specs.Limits.{largestLength}
 use Rattle.law.specs.Numbers.{isDigit}
-use Rattle.number.specs.Numbers.{digitHere, decimals, whole, judge}
+use Rattle.number.specs.Numbers.{digitHere, decimals, whole, toCount}
 use Rattle.number.specs.declared.NumberAnswer.{NumberAnswer}
 use Rattle.number.specs.declared.NumberAnswer.the-variants.{NotNumber}
 use Rattle.number_read.proofs.NumberLaws.{digit-low, digit-high, whole-end, whole-bad, whole-bare, whole-point, whole-more, whole-big}
@@ -27,7 +27,7 @@ abbrev μ-loop : tie.MeasureT-loop
 
 -- the loop's state, of which the answer is `g`
 module _ (s : List ℕ) (i y u : ℕ) (neg : Bool) (n : ℕ) {g : NumberAnswer} (inv : whole y u neg n (drop i s) ≡ g) where
-  finish : (a : NumberAnswer) → length s ≤ i → a ≡ judge y neg false (n * u) → a ≡ g
+  finish : (a : NumberAnswer) → length s ≤ i → a ≡ toCount y neg false (n * u) → a ≡ g
   finish a h e = e ∙ sym (whole-end s i y u neg n h) ∙ inv
 
   -- a turn: the byte's test `r`, the test `f` of the byte after it, and the byte `x`, widened
@@ -123,11 +123,11 @@ loop-less c = search laws
 loop-again : tie.Need-loop-again Inv-loop μ-loop
 loop-again c = search laws
 
-mul-judged : tie.Need-mul-judged Inv-loop μ-loop
-mul-judged c = search laws
+mul-to-count : tie.Need-mul-to-count Inv-loop μ-loop
+mul-to-count c = search laws
 
-judged-requires : tie.Need-judged-requires Inv-loop μ-loop
-judged-requires c κs = search laws
+to-count-requires : tie.Need-to-count-requires Inv-loop μ-loop
+to-count-requires c κs = search laws
 
 returns-5 : tie.Need-returns-5 Inv-loop μ-loop
 returns-5 c = search laws
@@ -135,4 +135,4 @@ returns-5 c = search laws
 pub whole-part-spec : {M : Type 1} → statement M
 whole-part-spec =
     tie.close
-    (tie.spec Inv-loop μ-loop loop-holds shared-slice-read-b is-digit-requires mul-n wide-requires sub-n add-n returns returns-2 add-digit-at digit-at-requires returns-3 add-decimal-part mul-decimal-part decimal-part-requires returns-4 add-i loop-less loop-again mul-judged judged-requires returns-5)
+    (tie.spec Inv-loop μ-loop loop-holds shared-slice-read-b is-digit-requires mul-n wide-requires sub-n add-n returns returns-2 add-digit-at digit-at-requires returns-3 add-decimal-part mul-decimal-part decimal-part-requires returns-4 add-i loop-less loop-again mul-to-count to-count-requires returns-5)

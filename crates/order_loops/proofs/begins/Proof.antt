@@ -6,8 +6,8 @@ use Rattle.order_loops.proofs.begins.Tie as tie
 
 ruleset laws = (begun, not-begun, needs)
 
-same-requires : tie.Need-same-requires
-same-requires c κs = search laws
+same-integers-requires : tie.Need-same-integers-requires
+same-integers-requires c κs = search laws
 
 place-at-requires : tie.Need-place-at-requires
 place-at-requires c κs = search laws
@@ -21,4 +21,4 @@ returns-2 c = search laws
 pub begins-spec : {M : Type 1} → statement M
 begins-spec =
     tie.close
-    (tie.spec same-requires place-at-requires returns returns-2)
+    (tie.spec same-integers-requires place-at-requires returns returns-2)

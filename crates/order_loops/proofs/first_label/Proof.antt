@@ -6,11 +6,11 @@ use Rattle.order_loops.proofs.first_label.Tie as tie
 
 ruleset laws = (first-is, needs)
 
-same-requires : tie.Need-same-requires
-same-requires c κs = search laws
+same-integers-requires : tie.Need-same-integers-requires
+same-integers-requires c κs = search laws
 
-same-requires-2 : tie.Need-same-requires-2
-same-requires-2 c κs = search laws
+same-integers-requires-2 : tie.Need-same-integers-requires-2
+same-integers-requires-2 c κs = search laws
 
 returns : tie.Need-returns
 returns c = search laws
@@ -18,4 +18,4 @@ returns c = search laws
 pub first-label-spec : {M : Type 1} → statement M
 first-label-spec =
     tie.close
-    (tie.spec same-requires same-requires-2 returns)
+    (tie.spec same-integers-requires same-integers-requires-2 returns)

@@ -6,8 +6,8 @@ use Rattle.order_loops.proofs.goes_on.Tie as tie
 
 ruleset laws = (goes-is, needs)
 
-same-requires : tie.Need-same-requires
-same-requires c κs = search laws
+same-integers-requires : tie.Need-same-integers-requires
+same-integers-requires c κs = search laws
 
 place-at-requires : tie.Need-place-at-requires
 place-at-requires c κs = search laws
@@ -24,4 +24,4 @@ returns c = search laws
 pub goes-on-spec : {M : Type 1} → statement M
 goes-on-spec =
     tie.close
-    (tie.spec same-requires place-at-requires same-place-requires turns-requires returns)
+    (tie.spec same-integers-requires place-at-requires same-place-requires turns-requires returns)

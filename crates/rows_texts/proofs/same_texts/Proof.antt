@@ -12,8 +12,8 @@ text-requires c κs = search laws
 text-requires-2 : tie.Need-text-requires-2
 text-requires-2 c κs = search laws
 
-same-requires : tie.Need-same-requires
-same-requires c κs = search laws
+same-bytes-requires : tie.Need-same-bytes-requires
+same-bytes-requires c κs = search laws
 
 returns : tie.Need-returns
 returns c = search laws
@@ -21,4 +21,4 @@ returns c = search laws
 pub same-texts-spec : {M : Type 1} → statement M
 same-texts-spec =
     tie.close
-    (tie.spec text-requires text-requires-2 same-requires returns)
+    (tie.spec text-requires text-requires-2 same-bytes-requires returns)

@@ -1,6 +1,7 @@
 -- `same::same` meets its contract. Assumes nothing.
 use borrow.Author.Needs.{needs}
-use Rattle.same.proofs.VerdictLaws.{accepted-small, first-refused, second-refused, both-accepted}
+use Rattle.read.proofs.ReplyLaws.{accepted-small}
+use Rattle.same.proofs.VerdictLaws.{first-refused, second-refused, both-accepted}
 use Rattle.same.proofs.same.Statement.{statement}
 use Rattle.same.proofs.same.Tie as tie
 

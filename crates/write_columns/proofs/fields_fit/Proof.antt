@@ -24,8 +24,8 @@ row-of-requires c κs = search laws
 loop-holds : tie.Need-loop-holds Inv-loop μ-loop
 loop-holds c = search laws
 
-type-in-requires : tie.Need-type-in-requires Inv-loop μ-loop
-type-in-requires c κs = search laws
+field-type-requires : tie.Need-field-type-requires Inv-loop μ-loop
+field-type-requires c κs = search laws
 
 slice-aggregate-column-fits : tie.Need-slice-aggregate-column-fits Inv-loop μ-loop
 slice-aggregate-column-fits c = search laws
@@ -49,7 +49,7 @@ loop-less : tie.Need-loop-less Inv-loop μ-loop
 loop-less c = search laws
 
 loop-again : tie.Need-loop-again Inv-loop μ-loop
-loop-again c = (search (fit-more, c .before .before .before .before .before .before .loop .inv .0, c .before .before .before .before .before .loop-test .taken, c .before .before .before .before .type-in .ensures, c .before .before .column-fits .ensures, c .before .if1 .left, c .width-of .ensures), search laws)
+loop-again c = (search (fit-more, c .before .before .before .before .before .before .loop .inv .0, c .before .before .before .before .before .loop-test .taken, c .before .before .before .before .field-type .ensures, c .before .before .column-fits .ensures, c .before .if1 .left, c .width-of .ensures), search laws)
 
 is-zero-from-requires : tie.Need-is-zero-from-requires Inv-loop μ-loop
 is-zero-from-requires c κs = search laws
@@ -60,4 +60,4 @@ returns-2 c = search laws
 pub fields-fit-spec : {M : Type 1} → statement M
 fields-fit-spec =
     tie.close
-    (tie.spec Inv-loop μ-loop field-count-requires row-of-requires loop-holds type-in-requires slice-aggregate-column-fits column-fits-requires returns width-of-requires add-k add-i loop-less loop-again is-zero-from-requires returns-2)
+    (tie.spec Inv-loop μ-loop field-count-requires row-of-requires loop-holds field-type-requires slice-aggregate-column-fits column-fits-requires returns width-of-requires add-k add-i loop-less loop-again is-zero-from-requires returns-2)

@@ -26,8 +26,8 @@ mul-z c = search laws
 array-copy-out-z : tie.Need-array-copy-out-z Inv-loop μ-loop
 array-copy-out-z c = search laws
 
-same-requires : tie.Need-same-requires Inv-loop μ-loop
-same-requires c κs = search laws
+same-integers-requires : tie.Need-same-integers-requires Inv-loop μ-loop
+same-integers-requires c κs = search laws
 
 returns : tie.Need-returns Inv-loop μ-loop
 returns c = search laws
@@ -47,4 +47,4 @@ returns-2 c = search laws
 pub is-zero-from-spec : {M : Type 1} → statement M
 is-zero-from-spec =
     tie.close
-    (tie.spec Inv-loop μ-loop loop-holds mul-z array-copy-out-z same-requires returns add-i loop-less loop-again returns-2)
+    (tie.spec Inv-loop μ-loop loop-holds mul-z array-copy-out-z same-integers-requires returns add-i loop-less loop-again returns-2)

@@ -24,8 +24,8 @@ row-of-requires c κs = search laws
 loop-holds : tie.Need-loop-holds Inv-loop μ-loop
 loop-holds c = search laws
 
-type-in-requires : tie.Need-type-in-requires Inv-loop μ-loop
-type-in-requires c κs = search laws
+field-type-requires : tie.Need-field-type-requires Inv-loop μ-loop
+field-type-requires c κs = search laws
 
 slice-aggregate-put-column : tie.Need-slice-aggregate-put-column Inv-loop μ-loop
 slice-aggregate-put-column c = search laws
@@ -52,7 +52,7 @@ loop-less : tie.Need-loop-less Inv-loop μ-loop
 loop-less c = search laws
 
 loop-again : tie.Need-loop-again Inv-loop μ-loop
-loop-again c = (search (put-more, c .before .before .before .before .before .before .before .before .loop .inv .0, c .before .before .before .before .before .before .before .loop-test .taken, c .before .before .before .before .before .before .type-in .ensures, c .before .before .before .put-column .ensures, c .width-of .ensures), search laws)
+loop-again c = (search (put-more, c .before .before .before .before .before .before .before .before .loop .inv .0, c .before .before .before .before .before .before .before .loop-test .taken, c .before .before .before .before .before .before .field-type .ensures, c .before .before .before .put-column .ensures, c .width-of .ensures), search laws)
 
 same-length : tie.Need-same-length Inv-loop μ-loop
 same-length c = search laws
@@ -63,4 +63,4 @@ returns c = search laws
 pub put-fields-spec : {M : Type 1} → statement M
 put-fields-spec =
     tie.close
-    (tie.spec Inv-loop μ-loop field-count-requires row-of-requires loop-holds type-in-requires slice-aggregate-put-column sub-put-column sub-put-column-2 put-column-requires width-of-requires add-k add-i loop-less loop-again same-length returns)
+    (tie.spec Inv-loop μ-loop field-count-requires row-of-requires loop-holds field-type-requires slice-aggregate-put-column sub-put-column sub-put-column-2 put-column-requires width-of-requires add-k add-i loop-less loop-again same-length returns)

@@ -24,8 +24,8 @@ row-of-requires c κs = search laws
 loop-holds : tie.Need-loop-holds Inv-loop μ-loop
 loop-holds c = search laws
 
-type-in-requires : tie.Need-type-in-requires Inv-loop μ-loop
-type-in-requires c κs = search laws
+field-type-requires : tie.Need-field-type-requires Inv-loop μ-loop
+field-type-requires c κs = search laws
 
 slice-aggregate-with-column : tie.Need-slice-aggregate-with-column Inv-loop μ-loop
 slice-aggregate-with-column c = search laws
@@ -46,7 +46,7 @@ loop-less : tie.Need-loop-less Inv-loop μ-loop
 loop-less c = search laws
 
 loop-again : tie.Need-loop-again Inv-loop μ-loop
-loop-again c = (search (sum-more, c .before .before .before .before .before .loop .inv .0, c .before .before .before .before .loop-test .taken, c .before .before .before .type-in .ensures, c .before .with-column .ensures, c .width-of .ensures), search laws)
+loop-again c = (search (sum-more, c .before .before .before .before .before .loop .inv .0, c .before .before .before .before .loop-test .taken, c .before .before .before .field-type .ensures, c .before .with-column .ensures, c .width-of .ensures), search laws)
 
 returns : tie.Need-returns Inv-loop μ-loop
 returns c = search laws
@@ -54,4 +54,4 @@ returns c = search laws
 pub with-fields-spec : {M : Type 1} → statement M
 with-fields-spec =
     tie.close
-    (tie.spec Inv-loop μ-loop field-count-requires row-of-requires loop-holds type-in-requires slice-aggregate-with-column with-column-requires width-of-requires add-k add-i loop-less loop-again returns)
+    (tie.spec Inv-loop μ-loop field-count-requires row-of-requires loop-holds field-type-requires slice-aggregate-with-column with-column-requires width-of-requires add-k add-i loop-less loop-again returns)

@@ -4,9 +4,9 @@ use mathlib.Core.Path.{_≡_, refl}
 use mathlib.Core.List.{List, []}
 use native.Mathlib.Omega.{arith}
 use lib.ListN.{getD}
+use Rattle.basics.proofs.Tables.{at-number, Missed, past}
 use Rattle.law.specs.Bytes.{ascii}
 use Rattle.form_words.specs.Padded.{rowTable}
-use Rattle.text.proofs.Tables.{at-number, Missed, past}
 use Rattle.form_words.proofs.table.row_at.Statement.{statement}
 use Rattle.form_words.proofs.table.row_at.Tie as tie
 

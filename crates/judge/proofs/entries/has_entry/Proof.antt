@@ -9,10 +9,10 @@ use Rattle.judge.proofs.entries.has_entry.Statement.{statement}
 use Rattle.judge.proofs.entries.has_entry.Tie as tie
 
 abbrev Inv-loop : tie.InvT-loop
-Inv-loop library kind board x w₀ at₀ w at = Seeking library (toZ w64 kind) board x w at
+Inv-loop board library kind x w₀ at₀ w at = Seeking board library (toZ w64 kind) x w at
 
 abbrev μ-loop : tie.MeasureT-loop
-μ-loop library kind board x w₀ at₀ w at = length library - at
+μ-loop board library kind x w₀ at₀ w at = length library - at
 
 ruleset laws = (seek-start, seek-steady, seek-stop, seek-found, seek-more, seek-less, seek-over, needs)
 

@@ -9,11 +9,8 @@ ruleset laws = (of-none, of-by, needs)
 is-row-requires : tie.Need-is-row-requires
 is-row-requires c κs = search laws
 
-array-copy-out-same : tie.Need-array-copy-out-same
-array-copy-out-same c = search laws
-
-same-requires : tie.Need-same-requires
-same-requires c κs = search laws
+has-kind-requires : tie.Need-has-kind-requires
+has-kind-requires c κs = search laws
 
 returns : tie.Need-returns
 returns c = search laws
@@ -24,4 +21,4 @@ returns-2 c = search laws
 pub is-of-spec : {M : Type 1} → statement M
 is-of-spec =
     tie.close
-    (tie.spec is-row-requires array-copy-out-same same-requires returns returns-2)
+    (tie.spec is-row-requires has-kind-requires returns returns-2)

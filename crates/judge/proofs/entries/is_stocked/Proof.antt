@@ -12,8 +12,8 @@ has-place-requires c κs = search laws
 returns : tie.Need-returns
 returns c = search laws
 
-kind-for-requires : tie.Need-kind-for-requires
-kind-for-requires c κs = search laws
+component-kind-requires : tie.Need-component-kind-requires
+component-kind-requires c κs = search laws
 
 has-entry-requires : tie.Need-has-entry-requires
 has-entry-requires c κs = search laws
@@ -24,4 +24,4 @@ returns-2 c = search laws
 pub is-stocked-spec : {M : Type 1} → statement M
 is-stocked-spec =
     tie.close
-    (tie.spec has-place-requires returns kind-for-requires has-entry-requires returns-2)
+    (tie.spec has-place-requires returns component-kind-requires has-entry-requires returns-2)

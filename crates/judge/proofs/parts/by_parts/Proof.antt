@@ -6,10 +6,10 @@ use Rattle.judge.proofs.parts.by_parts.Statement.{statement}
 use Rattle.judge.proofs.parts.by_parts.Tie as tie
 
 abbrev Inv-loop : tie.InvT-loop
-Inv-loop library places₀ board parts best₀ part₀ places best part = Parting parts library board places₀ places best part
+Inv-loop board library places₀ parts best₀ part₀ places best part = Parting parts board library places₀ places best part
 
 abbrev μ-loop : tie.MeasureT-loop
-μ-loop library places₀ board parts best₀ part₀ places best part = parts - part
+μ-loop board library places₀ parts best₀ part₀ places best part = parts - part
 
 ruleset laws = (part-start, part-room, part-small, part-short, part-length, part-more, part-over, part-last, needs)
 

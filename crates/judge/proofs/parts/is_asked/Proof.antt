@@ -9,8 +9,8 @@ ruleset laws = (asked-all, asked-by, needs)
 returns : tie.Need-returns
 returns c = search laws
 
-key-requires : tie.Need-key-requires
-key-requires c κs = search laws
+hash-name-requires : tie.Need-hash-name-requires
+hash-name-requires c κs = search laws
 
 is-in-requires : tie.Need-is-in-requires
 is-in-requires c κs = search laws
@@ -19,4 +19,4 @@ returns-2 : tie.Need-returns-2
 returns-2 c = search laws
 
 pub is-asked-spec : {M : Type 1} → statement M
-is-asked-spec = tie.close (tie.spec returns key-requires is-in-requires returns-2)
+is-asked-spec = tie.close (tie.spec returns hash-name-requires is-in-requires returns-2)

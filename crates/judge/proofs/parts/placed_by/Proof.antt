@@ -8,10 +8,10 @@ use Rattle.judge.proofs.parts.placed_by.Statement.{statement}
 use Rattle.judge.proofs.parts.placed_by.Tie as tie
 
 abbrev Inv-loop : tie.InvT-loop
-Inv-loop library places board parts part w₀ at₀ n₀ w at n = Placing (asked parts part board) library board w at n
+Inv-loop board library places parts part w₀ at₀ n₀ w at n = Placing (asked parts part board) board library w at n
 
 abbrev μ-loop : tie.MeasureT-loop
-μ-loop library places board parts part w₀ at₀ n₀ w at n = length board - at
+μ-loop board library places parts part w₀ at₀ n₀ w at n = length board - at
 
 ruleset laws = (place-start, place-steady, place-small, place-count, place-stop, place-found, place-more, place-less, place-over, needs)
 

@@ -1,13 +1,13 @@
 -- `judge::whole::judge` meets its contract. Assumes nothing.
 use borrow.Author.Needs.{needs}
-use Rattle.judge.proofs.VerdictLaws.{checked-small, first-refused, first-accepted}
+use Rattle.judge.proofs.VerdictLaws.{first-refused, first-accepted, examined-small}
 use Rattle.judge.proofs.whole.judge.Statement.{statement}
 use Rattle.judge.proofs.whole.judge.Tie as tie
 
-ruleset laws = (checked-small, first-refused, first-accepted, needs)
+ruleset laws = (first-refused, first-accepted, examined-small, needs)
 
-check-requires : tie.Need-check-requires
-check-requires c κs = search laws
+examined-requires : tie.Need-examined-requires
+examined-requires c κs = search laws
 
 refused-requires : tie.Need-refused-requires
 refused-requires c κs = search laws
@@ -23,5 +23,4 @@ returns-2 c = search laws
 
 pub judge-spec : {M : Type 1} → statement M
 judge-spec =
-    tie.close
-    (tie.spec check-requires refused-requires returns with-library-requires returns-2)
+    tie.close (tie.spec examined-requires refused-requires returns with-library-requires returns-2)

@@ -1,13 +1,13 @@
 -- `judge::whole::with_library` meets its contract. Assumes nothing.
 use borrow.Author.Needs.{needs}
-use Rattle.judge.proofs.VerdictLaws.{checked-small, second-refused, both-accepted}
+use Rattle.judge.proofs.VerdictLaws.{second-refused, both-accepted, examined-small}
 use Rattle.judge.proofs.whole.with_library.Statement.{statement}
 use Rattle.judge.proofs.whole.with_library.Tie as tie
 
-ruleset laws = (checked-small, second-refused, both-accepted, needs)
+ruleset laws = (second-refused, both-accepted, examined-small, needs)
 
-check-requires : tie.Need-check-requires
-check-requires c κs = search laws
+examined-requires : tie.Need-examined-requires
+examined-requires c κs = search laws
 
 refused-requires : tie.Need-refused-requires
 refused-requires c κs = search laws
@@ -23,5 +23,4 @@ returns-2 c = search laws
 
 pub with-library-spec : {M : Type 1} → statement M
 with-library-spec =
-    tie.close
-    (tie.spec check-requires refused-requires returns matched-requires returns-2)
+    tie.close (tie.spec examined-requires refused-requires returns matched-requires returns-2)

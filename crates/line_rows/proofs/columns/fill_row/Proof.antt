@@ -24,8 +24,8 @@ row-of-requires c κs = search laws
 loop-holds : tie.Need-loop-holds Inv-loop μ-loop
 loop-holds c = search laws
 
-type-in-requires : tie.Need-type-in-requires Inv-loop μ-loop
-type-in-requires c κs = search laws
+field-type-requires : tie.Need-field-type-requires Inv-loop μ-loop
+field-type-requires c κs = search laws
 
 put-field-requires : tie.Need-put-field-requires Inv-loop μ-loop
 put-field-requires c κs = search laws
@@ -54,4 +54,4 @@ returns-2 c = search laws
 pub fill-row-spec : {M : Type 1} → statement M
 fill-row-spec =
     tie.close
-    (tie.spec Inv-loop μ-loop field-count-requires row-of-requires loop-holds type-in-requires put-field-requires same-length returns add-i loop-less loop-again same-length-2 returns-2)
+    (tie.spec Inv-loop μ-loop field-count-requires row-of-requires loop-holds field-type-requires put-field-requires same-length returns add-i loop-less loop-again same-length-2 returns-2)

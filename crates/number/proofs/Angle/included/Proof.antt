@@ -8,10 +8,11 @@ use lib.IntN.{ℤ, natAbs}
 use mir.Syntax.{w64}
 use mir.Val.{SFits}
 use mir.ValLaws.{toZ-ofZ}
+use Rattle.basics.proofs.Integers.{back}
 use Rattle.law.specs.Limits.{below, fullTurn}
 use Rattle.number.specs.Limits.{includedOf}
 use Rattle.number.specs.declared.AngleAnswer.the-variants.{Made, Beyond}
-use Rattle.number.proofs.SignLaws.{back, turn-over, turn-back, turn-in}
+use Rattle.number.proofs.SignLaws.{turn-over, turn-back, turn-in}
 use Rattle.number.proofs.Angle.included.Statement.{statement}
 use Rattle.number.proofs.Angle.included.Tie as tie
 

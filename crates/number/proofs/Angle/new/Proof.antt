@@ -6,10 +6,11 @@ use lib.IntN.{ℤ, natAbs}
 use mir.Syntax.{w64}
 use mir.Val.{SFits}
 use mir.ValLaws.{toZ-ofZ}
+use Rattle.basics.proofs.Integers.{back}
 use Rattle.law.specs.Limits.{largestAngle}
 use Rattle.number.specs.Limits.{angleOf}
 use Rattle.number.specs.declared.AngleAnswer.the-variants.{Made, Beyond}
-use Rattle.number.proofs.SignLaws.{back, limit-over, limit-in}
+use Rattle.number.proofs.SignLaws.{limit-over, limit-in}
 use Rattle.number.proofs.Angle.new.Statement.{statement}
 use Rattle.number.proofs.Angle.new.Tie as tie
 

@@ -19,8 +19,8 @@ after-headed-requires c κs = search laws
 enum-known-g-2 : tie.Need-enum-known-g-2
 enum-known-g-2 c = search laws
 
-enum-told-2 : tie.Need-enum-told-2
-enum-told-2 c = search laws
+enum-known-g-3 : tie.Need-enum-known-g-3
+enum-known-g-3 c = search laws
 
 returns : tie.Need-returns
 unfolding after
@@ -45,4 +45,4 @@ returns-5 c = search laws
 pub after-spec : {M : Type 1} → statement M
 after-spec =
     tie.close
-    (tie.spec enum-told enum-known-g after-headed-requires enum-known-g-2 enum-told-2 returns returns-2 returns-3 returns-4 returns-5)
+    (tie.spec enum-told enum-known-g after-headed-requires enum-known-g-2 enum-known-g-3 returns returns-2 returns-3 returns-4 returns-5)

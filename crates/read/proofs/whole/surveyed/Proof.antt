@@ -2,7 +2,7 @@
 use Prim.Native.Nat.{_-_}
 use lib.ListN.{length}
 use borrow.Author.Needs.{needs}
-use Rattle.read.proofs.MarkLaws.{Checking, check-start, check-steady, check-count, check-length, check-width, check-marks, check-doubts, check-less, check-over, check-doubted, check-stop, check-stopped, check-more}
+use Rattle.read.proofs.MarkLaws.{Checking, check-start, check-steady, check-count, check-length, check-width, check-marks, check-doubts, check-less, check-over, check-doubted, check-typed, check-stop, check-untyped, check-stopped, check-more}
 use Rattle.read.proofs.whole.surveyed.Statement.{statement}
 use Rattle.read.proofs.whole.surveyed.Tie as tie
 
@@ -12,7 +12,7 @@ Inv-loop file marks₀ doubts₀ w₀ at₀ r₀ doubtful₀ marks doubts w at r
 abbrev μ-loop : tie.MeasureT-loop
 μ-loop file marks₀ doubts₀ w₀ at₀ r₀ doubtful₀ marks doubts w at r doubtful = length file - at
 
-ruleset laws = (check-start, check-steady, check-count, check-length, check-width, check-marks, check-doubts, check-less, check-over, check-doubted, check-stop, check-stopped, check-more, needs)
+ruleset laws = (check-start, check-steady, check-count, check-length, check-width, check-marks, check-doubts, check-less, check-over, check-doubted, check-typed, check-stop, check-untyped, check-stopped, check-more, needs)
 
 begin-requires : tie.Need-begin-requires Inv-loop μ-loop
 begin-requires c κs = search laws
@@ -56,6 +56,9 @@ loop-again c = search laws
 ended-requires : tie.Need-ended-requires Inv-loop μ-loop
 ended-requires c κs = search laws
 
+type-at-requires : tie.Need-type-at-requires Inv-loop μ-loop
+type-at-requires c κs = search laws
+
 same-length-3 : tie.Need-same-length-3 Inv-loop μ-loop
 same-length-3 c = search laws
 
@@ -68,4 +71,4 @@ returns-2 c = search laws
 pub surveyed-spec : {M : Type 1} → statement M
 surveyed-spec =
     tie.close
-    (tie.spec Inv-loop μ-loop begin-requires refusal-requires loop-holds turn-requires counted-requires stops-requires same-length same-length-2 returns names-component-requires is-doubtful-requires loop-less loop-again ended-requires same-length-3 same-length-4 returns-2)
+    (tie.spec Inv-loop μ-loop begin-requires refusal-requires loop-holds turn-requires counted-requires stops-requires same-length same-length-2 returns names-component-requires is-doubtful-requires loop-less loop-again ended-requires type-at-requires same-length-3 same-length-4 returns-2)

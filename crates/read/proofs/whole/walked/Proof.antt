@@ -45,4 +45,16 @@ returns-3 c = search laws
 pub walked-spec : {M : Type 1} → statement M
 walked-spec =
     tie.close
-    (tie.spec surveyed-requires same-length same-length-2 returns first-repeat-requires same-length-3 same-length-4 returns-2 refusal-requires same-length-5 same-length-6 returns-3)
+    (tie.spec
+    surveyed-requires
+    same-length
+    same-length-2
+    returns
+    first-repeat-requires
+    same-length-3
+    same-length-4
+    returns-2
+    refusal-requires
+    same-length-5
+    same-length-6
+    returns-3)

@@ -1,14 +1,15 @@
 -- `run_edges::texts::say_ends` ends: each line is behind the one before it. Assumes nothing.
 use Prim.Native.Nat.{ℕ, _+_, _-_, _^_, _≤_, _<_}
-use mathlib.Core.Path.{_≡_}
+use mathlib.Core.Path.{_≡_, ap}
 use mathlib.Core.List.{List}
 use native.Mathlib.Omega.{arith}
 use mir.Syntax.{w64}
 use mir.Val.{Fits}
 use borrow.Author.Needs.{needs}
 use lib.ListN.{length, take, drop, length-drop}
+use Rattle.basics.proofs.Lists.{rest}
 use Rattle.text.specs.Lines.{lineEnd}
-use Rattle.text.proofs.Lists.{rest}
+use Rattle.text.specs.declared.LineEnd.{LineEnd}
 use Rattle.text.proofs.LineLaws.{line-inside}
 use Rattle.run_edges.proofs.texts.say_ends.Statement.{statement}
 use Rattle.run_edges.proofs.texts.say_ends.Tie as tie
@@ -23,22 +24,23 @@ record Next (f : List ℕ) (at n : ℕ) : Type 0 where
   past : 0 < n
   within : at + n ≤ length f
 
-module _ (f : List ℕ) (at n : ℕ) (h : at < length f) (e : n ≡ lineEnd (take (length f - at) (drop at f)) .next) where
-  step : Next f at n
+module _ (f : List ℕ) (at : ℕ) (e : LineEnd) (h : at < length f) (is : e ≡ lineEnd (take (length f - at) (drop at f))) where
+  step : Next f at (e .next)
   step =
       let i = line-inside (drop at f) in
-      let d : n ≡ lineEnd (drop at f) .next = rw rest at e in
+      let d : e ≡ lineEnd (drop at f) = rw rest at is in
+      let n : e .next ≡ lineEnd (drop at f) .next = ap (λ (x : LineEnd). x .next) d in
       let l = length-drop at f in
       let p = i .past (omega arith) in
       record { past = omega arith; within = omega (arith, i .within) }
 
-  fits : length f < 2 ^ 64 → Fits w64 (at + n)
+  fits : length f < 2 ^ 64 → Fits w64 (at + e .next)
   fits g = omega (arith, step .within)
 
-  less : length f - (at + n) < length f - at
+  less : length f - (at + e .next) < length f - at
   less = omega (arith, step .past, step .within)
 
-  again : at + n ≤ length f
+  again : at + e .next ≤ length f
   again = step .within
 
 ruleset laws = (fits, less, again, needs)
@@ -46,14 +48,17 @@ ruleset laws = (fits, less, again, needs)
 loop-holds : tie.Need-loop-holds Inv-loop μ-loop
 loop-holds c = search laws
 
-sub-say-end : tie.Need-sub-say-end Inv-loop μ-loop
-sub-say-end c = search laws
+sub-line-end : tie.Need-sub-line-end Inv-loop μ-loop
+sub-line-end c = search laws
 
-part-say-end-start : tie.Need-part-say-end-start Inv-loop μ-loop
-part-say-end-start c = search laws
+part-line-end-start : tie.Need-part-line-end-start Inv-loop μ-loop
+part-line-end-start c = search laws
 
-part-say-end-end : tie.Need-part-say-end-end Inv-loop μ-loop
-part-say-end-end c = search laws
+part-line-end-end : tie.Need-part-line-end-end Inv-loop μ-loop
+part-line-end-end c = search laws
+
+line-end-requires : tie.Need-line-end-requires Inv-loop μ-loop
+line-end-requires c κs = search laws
 
 say-end-requires : tie.Need-say-end-requires Inv-loop μ-loop
 say-end-requires c κs = search laws
@@ -73,4 +78,4 @@ returns c = search laws
 pub say-ends-spec : {M : Type 1} → statement M
 say-ends-spec =
     tie.close
-    (tie.spec Inv-loop μ-loop loop-holds sub-say-end part-say-end-start part-say-end-end say-end-requires add-at loop-less loop-again returns)
+    (tie.spec Inv-loop μ-loop loop-holds sub-line-end part-line-end-start part-line-end-end line-end-requires say-end-requires add-at loop-less loop-again returns)

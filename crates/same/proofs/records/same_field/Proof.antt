@@ -45,20 +45,20 @@ same-texts-requires c κs = search laws
 returns : tie.Need-returns
 returns c = search laws
 
-mul-same : tie.Need-mul-same
-mul-same c = search laws
+mul-same-integers : tie.Need-mul-same-integers
+mul-same-integers c = search laws
 
-array-copy-out-same : tie.Need-array-copy-out-same
-array-copy-out-same c = search laws
+array-copy-out-same-integers : tie.Need-array-copy-out-same-integers
+array-copy-out-same-integers c = search laws
 
-mul-same-2 : tie.Need-mul-same-2
-mul-same-2 c = search laws
+mul-same-integers-2 : tie.Need-mul-same-integers-2
+mul-same-integers-2 c = search laws
 
-array-copy-out-same-2 : tie.Need-array-copy-out-same-2
-array-copy-out-same-2 c = search laws
+array-copy-out-same-integers-2 : tie.Need-array-copy-out-same-integers-2
+array-copy-out-same-integers-2 c = search laws
 
-same-requires : tie.Need-same-requires
-same-requires c κs = search laws
+same-integers-requires : tie.Need-same-integers-requires
+same-integers-requires c κs = search laws
 
 returns-2 : tie.Need-returns-2
 returns-2 c = search laws
@@ -66,4 +66,4 @@ returns-2 c = search laws
 pub same-field-spec : {M : Type 1} → statement M
 same-field-spec =
     tie.close
-    (tie.spec holds-bytes-requires mul-same-texts array-copy-out-same-texts add-same-texts mul-same-texts-2 array-copy-out-same-texts-2 mul-same-texts-3 array-copy-out-same-texts-3 add-same-texts-2 mul-same-texts-4 array-copy-out-same-texts-4 same-texts-requires returns mul-same array-copy-out-same mul-same-2 array-copy-out-same-2 same-requires returns-2)
+    (tie.spec holds-bytes-requires mul-same-texts array-copy-out-same-texts add-same-texts mul-same-texts-2 array-copy-out-same-texts-2 mul-same-texts-3 array-copy-out-same-texts-3 add-same-texts-2 mul-same-texts-4 array-copy-out-same-texts-4 same-texts-requires returns mul-same-integers array-copy-out-same-integers mul-same-integers-2 array-copy-out-same-integers-2 same-integers-requires returns-2)

@@ -25,8 +25,8 @@ row-of-requires c κs = search laws
 loop-holds : tie.Need-loop-holds Inv-loop μ-loop
 loop-holds c = search laws
 
-type-in-requires : tie.Need-type-in-requires Inv-loop μ-loop
-type-in-requires c κs = search laws
+field-type-requires : tie.Need-field-type-requires Inv-loop μ-loop
+field-type-requires c κs = search laws
 
 agrees-at-requires : tie.Need-agrees-at-requires Inv-loop μ-loop
 agrees-at-requires c κs = search laws
@@ -55,4 +55,4 @@ returns-2 c = search laws
 pub same-fields-spec : {M : Type 1} → statement M
 same-fields-spec =
     tie.close
-    (tie.spec Inv-loop μ-loop field-count-requires row-of-requires loop-holds type-in-requires agrees-at-requires returns width-of-requires add-at add-i loop-less loop-again returns-2)
+    (tie.spec Inv-loop μ-loop field-count-requires row-of-requires loop-holds field-type-requires agrees-at-requires returns width-of-requires add-at add-i loop-less loop-again returns-2)

@@ -6,14 +6,14 @@ use Rattle.same.proofs.records.same_row.Tie as tie
 
 ruleset laws = (rows-differ, rows-by-fields, needs)
 
-array-copy-out-same : tie.Need-array-copy-out-same
-array-copy-out-same c = search laws
+array-copy-out-same-integers : tie.Need-array-copy-out-same-integers
+array-copy-out-same-integers c = search laws
 
-array-copy-out-same-2 : tie.Need-array-copy-out-same-2
-array-copy-out-same-2 c = search laws
+array-copy-out-same-integers-2 : tie.Need-array-copy-out-same-integers-2
+array-copy-out-same-integers-2 c = search laws
 
-same-requires : tie.Need-same-requires
-same-requires c κs = search laws
+same-integers-requires : tie.Need-same-integers-requires
+same-integers-requires c κs = search laws
 
 returns : tie.Need-returns
 returns c = search laws
@@ -33,4 +33,4 @@ returns-2 c = search laws
 pub same-row-spec : {M : Type 1} → statement M
 same-row-spec =
     tie.close
-    (tie.spec array-copy-out-same array-copy-out-same-2 same-requires returns array-copy-out-magnitude magnitude-requires same-fields-requires returns-2)
+    (tie.spec array-copy-out-same-integers array-copy-out-same-integers-2 same-integers-requires returns array-copy-out-magnitude magnitude-requires same-fields-requires returns-2)

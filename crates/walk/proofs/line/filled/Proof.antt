@@ -12,8 +12,8 @@ refused-requires c κs = search laws
 returns : tie.Need-returns
 returns c = search laws
 
-type-in-requires : tie.Need-type-in-requires
-type-in-requires c κs = search laws
+file-type-in-requires : tie.Need-file-type-in-requires
+file-type-in-requires c κs = search laws
 
 point-in-requires : tie.Need-point-in-requires
 point-in-requires c κs = search laws
@@ -30,4 +30,4 @@ returns-2 c = search laws
 pub filled-spec : {M : Type 1} → statement M
 filled-spec =
     tie.close
-    (tie.spec refused-requires returns type-in-requires point-in-requires moved-requires taken-requires returns-2)
+    (tie.spec refused-requires returns file-type-in-requires point-in-requires moved-requires taken-requires returns-2)

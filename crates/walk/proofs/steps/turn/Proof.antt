@@ -18,17 +18,17 @@ part-line-end-end c = search laws
 line-end-requires : tie.Need-line-end-requires
 line-end-requires c κs = search laws
 
-sub-judge : tie.Need-sub-judge
-sub-judge c = search laws
+sub-judge-line : tie.Need-sub-judge-line
+sub-judge-line c = search laws
 
-part-judge-start : tie.Need-part-judge-start
-part-judge-start c = search laws
+part-judge-line-start : tie.Need-part-judge-line-start
+part-judge-line-start c = search laws
 
-part-judge-end : tie.Need-part-judge-end
-part-judge-end c = search laws
+part-judge-line-end : tie.Need-part-judge-line-end
+part-judge-line-end c = search laws
 
-judge-requires : tie.Need-judge-requires
-judge-requires c κs = search laws
+judge-line-requires : tie.Need-judge-line-requires
+judge-line-requires c κs = search laws
 
 add-behind : tie.Need-add-behind
 add-behind c = search laws
@@ -45,4 +45,4 @@ returns c = search laws
 pub turn-spec : {M : Type 1} → statement M
 turn-spec =
     tie.close
-    (tie.spec sub-line-end part-line-end-start part-line-end-end line-end-requires sub-judge part-judge-start part-judge-end judge-requires add-behind add-behind-2 behind-requires returns)
+    (tie.spec sub-line-end part-line-end-start part-line-end-end line-end-requires sub-judge-line part-judge-line-start part-judge-line-end judge-line-requires add-behind add-behind-2 behind-requires returns)

@@ -21,14 +21,14 @@ array-copy-out-magnitude c = search laws
 magnitude-requires : tie.Need-magnitude-requires
 magnitude-requires c κs = search laws
 
-type-in-requires : tie.Need-type-in-requires
-type-in-requires c κs = search laws
+file-type-in-requires : tie.Need-file-type-in-requires
+file-type-in-requires c κs = search laws
 
 point-in-requires : tie.Need-point-in-requires
 point-in-requires c κs = search laws
 
-advance-requires : tie.Need-advance-requires
-advance-requires c κs = search laws
+stepped-requires : tie.Need-stepped-requires
+stepped-requires c κs = search laws
 
 returns-2 : tie.Need-returns-2
 returns-2 c = search laws
@@ -36,4 +36,4 @@ returns-2 c = search laws
 pub step-spec : {M : Type 1} → statement M
 step-spec =
     tie.close
-    (tie.spec type-at-requires row-fits-requires returns array-copy-out-magnitude magnitude-requires type-in-requires point-in-requires advance-requires returns-2)
+    (tie.spec type-at-requires row-fits-requires returns array-copy-out-magnitude magnitude-requires file-type-in-requires point-in-requires stepped-requires returns-2)

@@ -1,0 +1,129 @@
+// A row: a record as ten numbers, its kind and then the fields of its line. Its columns and kinds by name, and what is read off it.
+use basics::same_integers;
+use law::FileType;
+use number::Angle;
+use number::Length;
+ghost use mathlib.Core.Path.{_≡_};
+ghost use Rattle.basics.specs.Integers.{eqZ};
+ghost use Rattle.law.specs.Records.{isLibrary};
+ghost use Rattle.rows.specs.Columns.{columnAt, kindColumn, pointIn, typeInRow};
+ghost use Rattle.rows.specs.RowKinds.{leadsComponent, componentKind};
+
+// How many numbers a row has.
+pub const WIDTH: usize = 10;
+
+// Kinds of rows: the title line, the first line of a placement, the leading lines of components; and the last there is.
+pub const TITLE: i64 = 11;
+
+pub const PART: i64 = 131;
+
+pub const ELECTRICAL: i64 = 141;
+
+pub const MECHANICAL: i64 = 151;
+
+pub const LAST_KIND: u64 = 159;
+
+// The first column is the kind.
+pub const KIND: usize = 0;
+
+// Of a title line: the file's type.
+pub const FILE_TYPE: usize = 1;
+
+// Of a point line.
+pub const LABEL: usize = 1;
+
+pub const X: usize = 2;
+
+pub const Y: usize = 3;
+
+pub const ANGLE: usize = 4;
+
+// Of the leading line of a component and of the first line of a placement, whose package stands where a component has its
+// geometry: texts, each by its start in the file and its length.
+pub const GEOMETRY: usize = 1;
+
+pub const GEOMETRY_LEN: usize = 2;
+
+pub const PART_NUMBER: usize = 3;
+
+pub const PART_NUMBER_LEN: usize = 4;
+
+// Of the first line of a placement.
+pub const REFERENCE: usize = 5;
+
+pub const REFERENCE_LEN: usize = 6;
+
+// A point line: its loop's label, its place, its included angle.
+pub struct Point {
+    pub label: i64,
+    pub x: Length,
+    pub y: Length,
+    pub angle: Angle,
+}
+
+// A column of a row, 0 past its last.
+pub fn column_at(row: &[i64], i: usize) -> i64
+    ensures { λ r. ⌜ r ≡ columnAt (now (row .entry)) i ⌝ }
+{
+    if i < row.len() {
+        return row[i];
+    }
+    0
+}
+
+// Whether a row is of this kind.
+pub fn has_kind(row: [i64; WIDTH], kind: i64) -> bool
+    ensures { λ r. ⌜ r ≡ eqZ (kindColumn row) kind ⌝ }
+{
+    same_integers(row[KIND], kind)
+}
+
+// The kind of an electrical or a mechanical component.
+pub fn component_kind(mechanical: bool) -> i64
+    ensures { λ r. ⌜ r ≡ componentKind mechanical ⌝ }
+{
+    if mechanical { MECHANICAL } else { ELECTRICAL }
+}
+
+// Whether a row leads ELECTRICAL or MECHANICAL, and so names a component.
+pub fn leads_component(row: [i64; WIDTH]) -> bool
+    ensures { λ r. ⌜ r ≡ leadsComponent row ⌝ }
+{
+    has_kind(row, ELECTRICAL) | has_kind(row, MECHANICAL)
+}
+
+// The point in the row of a point line.
+pub fn point_in(row: [i64; WIDTH]) -> Point
+    ensures { λ r. ⌜ r ≡ pointIn row ⌝ }
+{
+    Point {
+        label: row[LABEL],
+        x: Length(row[X]),
+        y: Length(row[Y]),
+        angle: Angle(row[ANGLE]),
+    }
+}
+
+// The file's type in the row of a title line.
+pub fn file_type_in(row: [i64; WIDTH]) -> FileType
+    ensures { λ r. ⌜ r ≡ typeInRow row ⌝ }
+{
+    if same_integers(row[FILE_TYPE], 0) {
+        return FileType::Board;
+    }
+    if same_integers(row[FILE_TYPE], 1) {
+        return FileType::Panel;
+    }
+    FileType::Library
+}
+
+// Whether a file is a library.
+pub fn is_library(t: FileType) -> bool
+    ensures { λ r. ⌜ r ≡ isLibrary t ⌝ }
+{
+    match t {
+        FileType::Board => false,
+        FileType::Panel => false,
+        FileType::Library => true,
+    }
+}
