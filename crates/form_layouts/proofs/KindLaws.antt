@@ -2,18 +2,18 @@
 use Prim.Native.Nat.{ℕ, zero, suc, _+_, _/_, _-_, _≤_, _<_}
 use mir.Syntax.{w64}
 use mir.Val.{Fits}
-use mathlib.Core.Path.{_≡_, refl, sym, _∙_}
+use mathlib.Core.Path.{_≡_, refl, _∙_}
 use mathlib.Core.List.{List, [], _∷_}
-use mathlib.Core.Bool.{Bool, true, false, not, _&&_, false≢true}
+use mathlib.Core.Bool.{Bool, true, false, not, _&&_}
 use native.Mathlib.Omega.{arith}
-use borrow.Author.Tests.{le-leb, lt-leb, leb-true, leb-false, ne-eqb, lt-ltb, le-ltb}
+use borrow.Author.Tests.{le-leb, lt-leb, leb-true, ne-eqb, lt-ltb, le-ltb}
 use lib.Dec.{leb, eqb}
 use lib.ListN.{length, getD, drop}
 use lib.Seq.{drop-cons}
 use native.Mathlib.Numerals.{add-one}
 use Rattle.rows.proofs.EachKind.{each-kind}
 use Rattle.basics.proofs.Bytes.{bytes-true}
-use Rattle.basics.proofs.Tables.{allBelow, below-all, Missed, past}
+use Rattle.basics.proofs.Tables.{allBelow, Missed, past}
 use Rattle.basics.proofs.Bools.{and-left, and-right, sameFlag, flag-eq}
 use Rattle.law.specs.Sections.{sectionNames, sections}
 use Rattle.law.specs.Words.{sameBytes, wordAt}

@@ -9,9 +9,8 @@ use mir.ValLaws.{toZ-ofZ}
 use lib.IntN.{ℤ, pos}
 use lib.ListN.{length}
 use Rattle.law.specs.Kinds.{electricalKind, mechanicalKind, partKind}
-use Rattle.rows.proofs.ColumnLaws.{column}
 use Rattle.rows_texts.specs.Names.{sameNames, refers}
-use Rattle.rows.specs.Columns.{columnAt, kindColumn}
+use Rattle.rows.specs.Columns.{kindColumn}
 use Rattle.basics.specs.Integers.{eqZ}
 use Rattle.basics.proofs.Integers.{back}
 use Rattle.law.specs.Words.{boardWord, noReference}
@@ -22,7 +21,6 @@ use Rattle.walk.specs.declared.Turn.{Turn}
 use Rattle.law.specs.Answers.{limit}
 use Rattle.walk.specs.Walks.{begun, turnOf, stopsBy, isRow, Steady, Trace, traceBy, traceAt}
 use Rattle.walk.proofs.WalkLaws.{Going, going-start, going-trace, going-less, going-more, going-end}
-use Rattle.rows_texts.specs.Texts.{textIs}
 use Rattle.judge.specs.Entries.{isOf, isEntry, entryIn, hasEntry, lacksEntry, lacks}
 
 -- a row of a kind

@@ -10,8 +10,6 @@ use lib.ListN.{length}
 use Rattle.rows.specs.RowKinds.{isOfKind}
 use Rattle.law.specs.Kinds.{partKind}
 use Rattle.rows_texts.specs.Names.{keyOf}
-use Rattle.rows.specs.Columns.{columnAt}
-use Rattle.basics.specs.Integers.{eqZ}
 use Rattle.basics.proofs.Bools.{and-right, and-none}
 use Rattle.walk.specs.declared.Found.{Found}
 use Rattle.walk.specs.declared.Found.the-variants.{Row, Nothing, Refused}

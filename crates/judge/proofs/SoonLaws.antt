@@ -6,11 +6,9 @@ use mathlib.Core.Bool.{Bool, true, false, cond, _&&_, _||_}
 use native.Mathlib.Omega.{arith}
 use borrow.Author.Tests.{lt-ltb, le-ltb, eq-eqb, ne-eqb}
 use lib.Dec.{ltb, eqb}
-use lib.IntN.{ℤ, pos}
+use lib.IntN.{ℤ}
 use Rattle.rows.specs.RowKinds.{isOfKind}
 use Rattle.law.specs.Kinds.{partKind}
-use Rattle.rows.specs.Columns.{columnAt}
-use Rattle.basics.specs.Integers.{eqZ}
 use Rattle.walk.specs.Walks.{Trace, done, stop, skip, row, traceOf}
 use Rattle.law.specs.declared.Verdict.{Verdict}
 use Rattle.law.specs.Answers.{verdict}

@@ -2,7 +2,7 @@
 use Prim.Native.Nat.{ℕ, zero, suc, _+_, _*_, _-_, _/_, _%_, _≤_, _<_}
 use mathlib.Core.Path.{_≡_, refl, sym, ap, subst, _∙_}
 use mathlib.Core.List.{List, [], _∷_}
-use mathlib.Core.Bool.{Bool, true, false, cond, _&&_, _||_, false≢true}
+use mathlib.Core.Bool.{Bool, true, false, cond, _&&_, false≢true}
 use native.Mathlib.Omega.{arith}
 use borrow.Author.Tests.{ltb-true, ltb-false}
 use lib.Dec.{ltb, eqb}
@@ -11,7 +11,7 @@ use lib.ListN.{length, getD, replicate, length-replicate, getD-replicate}
 use Rattle.law.specs.Kinds.{electricalKind, mechanicalKind}
 use Rattle.rows.specs.RowKinds.{componentKind, isOfKind}
 use Rattle.rows_texts.specs.Names.{keyOf, sameNames}
-use Rattle.rows.specs.Columns.{columnAt, geometryLength, geometryStart, kindColumn, partLength, partStart}
+use Rattle.rows.specs.Columns.{geometryLength, geometryStart, kindColumn, partLength, partStart}
 use Rattle.basics.specs.Integers.{eqZ}
 use Rattle.basics.proofs.Bools.{and-left, and-right, or-first, or-second, and-none}
 use Rattle.names_slots.specs.Looks.{looks}

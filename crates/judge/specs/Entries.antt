@@ -5,10 +5,9 @@ use mathlib.Core.Bool.{Bool, false, cond, not, _&&_, _||_}
 use lib.IntN.{ℤ, pos}
 use Rattle.law.specs.Kinds.{electricalKind, mechanicalKind, partKind}
 use Rattle.rows_texts.specs.Names.{sameNames, refers}
-use Rattle.rows.specs.Columns.{columnAt, kindColumn}
+use Rattle.rows.specs.Columns.{kindColumn}
 use Rattle.basics.specs.Integers.{eqZ}
 use Rattle.law.specs.Words.{boardWord, noReference}
-use Rattle.rows_texts.specs.Texts.{textIs}
 use Rattle.walk.specs.Walks.{isRow, Trace, done, stop, skip, row, traceOf}
 use Rattle.walk.specs.declared.Turn.{Turn}
 

@@ -3,12 +3,10 @@ use Prim.Native.Nat.{ℕ, _+_}
 use mathlib.Core.List.{List}
 use mathlib.Core.Bool.{Bool, cond, _&&_}
 use lib.Dec.{ltb, eqb}
-use lib.IntN.{ℤ, pos}
+use lib.IntN.{ℤ}
 use Rattle.rows.specs.RowKinds.{isOfKind}
 use Rattle.law.specs.Kinds.{partKind}
 use Rattle.rows_texts.specs.Names.{keyOf}
-use Rattle.rows.specs.Columns.{columnAt}
-use Rattle.basics.specs.Integers.{eqZ}
 use Rattle.walk.specs.declared.Turn.{Turn}
 use Rattle.walk.specs.Walks.{Trace, done, stop, skip, row, traceOf}
 use Rattle.law.specs.declared.Verdict.{Verdict}

@@ -6,8 +6,6 @@ use lib.Dec.{eqb}
 use lib.IntN.{pos}
 use Rattle.rows.specs.RowKinds.{isOfKind}
 use Rattle.law.specs.Kinds.{partKind}
-use Rattle.rows.specs.Columns.{columnAt}
-use Rattle.basics.specs.Integers.{eqZ}
 use Rattle.law.specs.declared.FileType.{FileType}
 use Rattle.law.specs.Records.{isLibrary}
 use Rattle.law.specs.declared.Reply.{Reply}

@@ -6,7 +6,6 @@ ghost use mathlib.Core.Path.{_≡_};
 ghost use Prim.Native.Nat.{_≤_};
 ghost use lib.ListN.{length};
 ghost use Rattle.rows.specs.RowKinds.{componentKind};
-ghost use Rattle.rows_texts.specs.Names.{refers};
 ghost use Rattle.law.specs.Answers.{limit};
 ghost use Rattle.judge.specs.Entries.{isOf, isEntry, hasEntry, lacksEntry, lacks};
 ghost use Rattle.judge.specs.Stocked.{Stocked};

@@ -11,9 +11,7 @@ use borrow.Author.Tests.{lt-ltb, le-ltb, ltb-false, eq-eqb, ne-eqb}
 use lib.Dec.{ltb}
 use lib.IntN.{ℤ, pos, natAbs}
 use Rattle.basics.proofs.Integers.{back}
-use Rattle.rows.proofs.ColumnLaws.{column}
-use Rattle.rows.specs.RowKinds.{componentKind}
-use Rattle.rows.specs.Columns.{columnAt, geometryLength, geometryStart, partLength, partStart}
+use Rattle.rows.specs.Columns.{geometryLength, geometryStart, partLength, partStart}
 use Rattle.rows_texts.specs.Texts.{sameTexts}
 use Rattle.judge_stock.specs.Stock.{codeFor, packOf, packedRow, isNamed, holdsName, tagOf, tagged, showsBy}
 

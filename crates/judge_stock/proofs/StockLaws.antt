@@ -4,19 +4,13 @@ use mathlib.Core.Path.{_≡_, refl, sym, ap, _∙_}
 use mathlib.Core.List.{List}
 use mathlib.Core.Bool.{Bool, true, false, cond, _&&_, true≢false, false≢true}
 use native.Mathlib.Omega.{arith}
-use mir.Syntax.{w64}
-use mir.Val.{SFits}
 use borrow.Author.Tests.{lt-ltb, le-ltb}
 use lib.Dec.{eqb}
-use lib.IntN.{ℤ, pos}
+use lib.IntN.{ℤ}
 use lib.ListN.{length, getD}
 use Rattle.law.specs.Kinds.{electricalKind, mechanicalKind}
-use Rattle.rows.proofs.ColumnLaws.{column}
 use Rattle.rows.specs.RowKinds.{leadsComponent, isOfKind}
 use Rattle.rows_texts.specs.Names.{keyOf}
-use Rattle.rows.specs.Columns.{columnAt, kindColumn}
-use Rattle.basics.proofs.Integers.{same-as, back}
-use Rattle.basics.specs.Integers.{eqZ}
 use Rattle.names_slots.specs.Looks.{looks}
 use Rattle.names_slots.specs.Hashes.{slotOf}
 use Rattle.names_slots.specs.Slots as slot

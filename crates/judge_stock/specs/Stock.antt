@@ -7,8 +7,7 @@ use lib.IntN.{ℤ, pos, natAbs}
 use Rattle.law.specs.Kinds.{electricalKind, mechanicalKind}
 use Rattle.rows.specs.RowKinds.{leadsComponent, isOfKind}
 use Rattle.rows_texts.specs.Names.{keyOf}
-use Rattle.rows.specs.Columns.{columnAt, geometryLength, geometryStart, partLength, partStart}
-use Rattle.basics.specs.Integers.{eqZ}
+use Rattle.rows.specs.Columns.{geometryLength, geometryStart, partLength, partStart}
 use Rattle.names_slots.specs.Slots as slot
 use Rattle.walk.specs.declared.Turn.{Turn}
 use Rattle.walk.specs.Walks.{isRow, Trace, done, stop, skip, row, traceOf}

@@ -1,42 +1,43 @@
 -- What the producing rules let in, derived step by step, and what they keep out; an edit of a rule is refused here.
-use Prim.Native.Nat.{ℕ, _+_, _≤_, _<_}
+use Prim.Native.Nat.{ℕ, _+_, _<_}
 use mathlib.Core.Path.{_≡_, refl, sym, ap, _∙_}
-use mathlib.Core.Logic.{_≢_, inl, inr}
+use mathlib.Core.Logic.{_≢_}
 use mathlib.Core.List.{List, [], _∷_, _++_}
 use mathlib.Core.Bool.{Bool, true, false, _||_, or-true, false≢true}
 use native.Mathlib.Omega.{arith}
 use borrow.Author.Tests.{eq-eqb}
 use lib.Dec.{eqb}
 use lib.IntN.{ℤ, pos, negsuc, natAbs}
-use lib.ListN.{length}
+use lib.ListN.{length, take}
+use Rattle.law.specs.Files.{Mendable}
+use Rattle.law.specs.Given.{Fails}
 use Rattle.law.specs.Bytes as by
-use Rattle.law.specs.Bytes.{permitted, allOf, begins, ascii}
+use Rattle.law.specs.Bytes.{permitted, allOf, ascii}
 use Rattle.law.specs.Lines as lines
-use Rattle.law.specs.Fields.{Field, field}
+use Rattle.law.specs.Fields.{field}
 use Rattle.law.specs.Limits.{largestLength, wholeTurn}
-use Rattle.law.specs.Numbers.{Digit, Numeral, one, more, Decimals, last, next, noPoint, withPoint, SpellsNumber, plain, minus}
+use Rattle.law.specs.Numbers.{Digit, one, last, next, withPoint, SpellsNumber, plain, minus}
 use Rattle.law.specs.Dates.{datePieces, isTwo, fitsIn, isDate}
 use Rattle.law.specs.Words.{wordsOf, sameBytes, wordAt}
 use Rattle.law.specs.Sections.{sections, sectionNames}
-use Rattle.law.specs.Kinds.{sectionOf, lineOf, Role, point, roleOf, mechanicalKind}
+use Rattle.law.specs.Kinds.{sectionOf, lineOf, Role, point, roleOf}
 use Rattle.law.specs.Layouts.{layoutOf, typesOf}
-use Rattle.law.specs.Values.{Value, number, word, text, Rec}
+use Rattle.law.specs.Values.{Value, number, word, Rec}
 use Rattle.law.specs.Records.{Place, placeOf, angleOf, isLibrary, shapeOf, manyLoops, Named, namesAComponent}
 use Rattle.law.specs.Fits.{under, within, meaning, barred, goodText, isEmpty, fits, fitsAll, wellFormed}
 use Rattle.law.specs.WordSpelling.{Listed, here, there, AnyCase, end, same, small}
 use Rattle.law.specs.RecordSpelling.{SpellsField, asWord}
 use Rattle.law.specs.LineSpelling as spelled
 use Rattle.law.specs.LineSpelling.{SpellsLines, inside}
-use Rattle.law.specs.Lists.{Line, PointLine, Step, last as back, Loop, circle, path, Loops, final, another, numbered, no-line, no-pair, pair, led, placed, section, no-section, Section, Header, header-of, Middle, Permitted, a-board, NotAmong, in-none, nor, AllDiffer, nothing-named, and-new, Distinct}
-use Rattle.law.specs.Files.{titled}
+use Rattle.law.specs.Lists.{Line, PointLine, Step, last as back, Loop, circle, path, Loops, final, another, numbered, no-line, no-pair, pair, led, placed, section, no-section, Section, Header, header-of, Middle, Permitted, a-board, in-none, nor, nothing-named, and-new, Distinct}
 use Rattle.law.specs.Rows.{Holds, none, aNumber, aWord, aDate, aText}
 use Rattle.law.specs.Answers.{verdict}
 use Rattle.law.specs.Judging as judging
-use Rattle.law.specs.Judging.{Placement, placementIn, Entry, this, later, Served, board as needs-none, mechanical as needs-mechanical, electrical as needs-electrical, Judged, lacking, served}
+use Rattle.law.specs.Judging.{placementIn, Entry, this, later, Served, board as needs-none, mechanical as needs-mechanical, electrical as needs-electrical, Judged, lacking, served}
 use Rattle.law.specs.declared.Rules.{Rules}
 use Rattle.law.specs.declared.Rules.the-variants.{Idf3}
 use Rattle.law.specs.declared.FileType.{FileType}
-use Rattle.law.specs.declared.FileType.the-variants.{Board, Panel, Library}
+use Rattle.law.specs.declared.FileType.the-variants.{Board, Library}
 use Rattle.law.specs.declared.Context.{Context}
 use Rattle.law.specs.declared.Words.{Words}
 use Rattle.law.specs.declared.Words.the-variants.{Units}
@@ -223,3 +224,7 @@ lacks-mechanical (needs-electrical e f n) = f refl
 
 pub second-lacks : Judged (board (part "h" "q" "NOREFDES" ∷ position ∷ [])) (library (electrical "h" "q")) (verdict 16 0 1 1)
 second-lacks = lacking [] [] (placementIn (part "h" "q" "NOREFDES")) (not-library refl) refl refl judging.none lacks-mechanical
+
+-- replies: the line that fails is the one with which nothing can be mended, and not the one behind it
+pub failing-line : (ls : List (List ℕ)) (k : ℕ) → Fails ls k → Mendable Idf3 (take k ls) × (Mendable Idf3 (take (k + 1) ls) → ⊥)
+failing-line ls k f = (f .1, f .2)

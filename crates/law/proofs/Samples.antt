@@ -2,7 +2,7 @@
 use Prim.Native.Nat.{ℕ}
 use Prim.Native.String.{String}
 use mathlib.Core.List.{List, [], _∷_, _++_}
-use lib.IntN.{ℤ, pos}
+use lib.IntN.{pos}
 use Rattle.law.specs.Bytes.{ascii}
 use Rattle.law.specs.Values.{Value, number, word, text, Rec}
 

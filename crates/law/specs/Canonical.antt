@@ -8,8 +8,9 @@ use lib.IntN.{ℤ}
 use Rattle.law.specs.Bytes.{isSpace, ascii, allOf, begins}
 use Rattle.law.specs.Fields.{Field, field}
 use Rattle.law.specs.Printing.{printedCount, printedInteger}
-use Rattle.law.specs.Values.{Value, number, word, text, Rec}
+use Rattle.law.specs.Values.{Value, Rec}
 use Rattle.law.specs.Words.{wordsOf, propWord, wordAt}
+use Rattle.law.specs.Records.{numOf, wordOf, bytesOf}
 use Rattle.law.specs.Layouts.{Front, keyword, prop, plain, Layout, layoutOf}
 use Rattle.law.specs.Fits.{isEmpty}
 use Rattle.law.specs.declared.Rules.{Rules}
@@ -40,38 +41,14 @@ printedNumber v A z = printedCount z
 printedNumber v R z = printedCount z
 printedNumber v Ver z = versionText v
 
--- texts alone are quoted
-abbrev pub quotedAs : FieldType → List ℕ → Bool
-quotedAs T s = needsQuotes s
-quotedAs Ref s = needsQuotes s
-quotedAs D s = false
-quotedAs I s = false
-quotedAs (N l) s = false
-quotedAs (W l) s = false
-
--- numbers alone have decimals
-abbrev pub printedAs : Rules → FieldType → ℤ → List ℕ
-printedAs v T z = printedInteger z
-printedAs v Ref z = printedInteger z
-printedAs v D z = printedInteger z
-printedAs v I z = printedInteger z
-printedAs v (N l) z = printedNumber v l z
-printedAs v (W l) z = printedInteger z
-
--- words alone have a list
-abbrev pub listAs : Rules → FieldType → List (List ℕ)
-listAs v T = []
-listAs v Ref = []
-listAs v D = []
-listAs v I = []
-listAs v (N l) = []
-listAs v (W l) = wordsOf v l
-
--- the field of a value at its type
+-- the field of a value at its type: texts alone are quoted, numbers alone have decimals, words stand in their list
 unfoldable pub canonicalField : Rules → FieldType → Value → Field
-canonicalField v t (text s) = field (quotedAs t s) s
-canonicalField v t (number z) = field false (printedAs v t z)
-canonicalField v t (word n) = field false (wordAt (listAs v t) n)
+canonicalField v T x = field (needsQuotes (bytesOf x)) (bytesOf x)
+canonicalField v Ref x = field (needsQuotes (bytesOf x)) (bytesOf x)
+canonicalField v D x = field false (bytesOf x)
+canonicalField v I x = field false (printedInteger (numOf x))
+canonicalField v (N l) x = field false (printedNumber v l (numOf x))
+canonicalField v (W l) x = field false (wordAt (wordsOf v l) (wordOf x))
 
 -- one field for each type, while there are values
 unfoldable pub canonicalFields : Rules → List FieldType → List Value → List Field

@@ -47,9 +47,6 @@ unfoldable pub roleOf : Rules → ℕ → Role
 roleOf v k = roleBy (sectionAt v (sectionOf v k)) (lineOf v k)
 
 -- the kinds that rules name
-abbrev pub titleKind : ℕ
-titleKind = 11
-
 abbrev pub partKind : ℕ
 partKind = 131
 

@@ -1,19 +1,16 @@
 -- Laws by which the code of a field follows its definition.
-use Prim.Native.Nat.{ℕ, suc, _+_, _≤_, _<_}
+use Prim.Native.Nat.{ℕ, _≤_}
 use mathlib.Core.Path.{_≡_, refl, sym, ap, _∙_}
-use mathlib.Core.List.{List, [], _∷_}
+use mathlib.Core.List.{List, []}
 use mathlib.Core.Option.{Option, none, some}
 use mathlib.Core.Bool.{Bool, true, false, cond, not, _&&_}
 use native.Mathlib.Omega.{arith}
-use borrow.Author.Tests.{eq-eqb, ne-eqb}
 use lib.Dec.{ltb, eqb}
 use lib.IntN.{ℤ, pos, negsuc, natAbs}
-use lib.ListN.{length, drop, getD}
 use mir.Syntax.{w64}
 use mir.Val.{SFits}
 use mir.ValLaws.{toZ-ofZ}
 use Rattle.basics.proofs.Integers.{back}
-use Rattle.basics.proofs.Lists.{at-cons, at-end}
 use Rattle.law.specs.Fields.{field}
 use Rattle.law.specs.Limits.{below, mostDecimals, largestLength, inTurn}
 use Rattle.number.specs.Limits.{includedOf}

@@ -10,9 +10,7 @@ use mir.Val.{Fits, SFits, toZ}
 use mir.ValLaws.{toZ-ofZ, toZ-pos}
 use lib.IntN.{ℤ, pos}
 use lib.ListN.{length, take, drop, length-drop, drop-of-length-le}
-use lib.Seq.{drop-cons}
 use lib.Dec.{eqb}
-use native.Mathlib.Numerals.{add-one}
 use borrow.Author.Tests.{eq-eqb, ne-eqb}
 use Rattle.basics.proofs.Bools.{none-some}
 use Rattle.basics.proofs.Integers.{back}

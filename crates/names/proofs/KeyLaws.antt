@@ -2,23 +2,13 @@
 use Prim.Native.Nat.{ℕ, _-_, _<_}
 use mathlib.Core.Path.{_≡_, refl, sym, ap, _∙_}
 use mathlib.Core.List.{List}
-use mathlib.Core.Bool.{Bool, true, false, not, _&&_, _||_, true≢false, false≢true}
-use mir.Syntax.{w64}
-use mir.Val.{SFits}
-use mir.ValLaws.{toZ-ofZ}
+use mathlib.Core.Bool.{Bool, true, false, not, _&&_, true≢false, false≢true}
 use borrow.Author.Tests.{not-true, not-false}
-use lib.IntN.{ℤ}
 use lib.ListN.{length}
-use Rattle.rows_texts.specs.Names.{sameNames, keyOf}
-use Rattle.rows.proofs.ColumnLaws.{column}
-use Rattle.rows.specs.Columns.{columnAt}
-use Rattle.basics.proofs.Bytes.{bytes-true}
-use Rattle.basics.proofs.Bools.{and-left, and-right}
-use Rattle.names_slots.specs.Hashes.{hashed}
+use Rattle.rows_texts.specs.Names.{keyOf}
 use Rattle.names_slots.specs.Marks.{mayHold, marked}
 use Rattle.names_slots.proofs.MarkLaws.{marking-length, marking-keeps, marking-here}
 use Rattle.walk.specs.declared.Turn.{Turn}
-use Rattle.rows_texts.specs.Texts.{textAt, sameTexts}
 use Rattle.names.specs.Names.{isNamed, isUsed}
 use Rattle.names.specs.Marks.{heldIf, markedIf, repeatsAmong, Telling}
 

@@ -2,27 +2,19 @@
 use Prim.Native.Nat.{ℕ, _-_, _≤_, _<_}
 use mathlib.Core.Path.{_≡_, refl, sym, ap, _∙_}
 use mathlib.Core.List.{List}
-use mathlib.Core.Bool.{Bool, true, false, _&&_, _||_, true≢false, false≢true, and-assoc}
-use mir.Syntax.{w64}
-use mir.Val.{SFits}
-use mir.ValLaws.{toZ-ofZ}
+use mathlib.Core.Bool.{Bool, true, false, _&&_, true≢false, false≢true, and-assoc}
 use borrow.Author.Tests.{lt-ltb, le-ltb}
 use lib.Dec.{ltb}
-use lib.IntN.{ℤ, pos}
+use lib.IntN.{ℤ}
 use lib.ListN.{length}
-use Rattle.rows.proofs.ColumnLaws.{column}
 use Rattle.rows.specs.RowKinds.{leadsComponent}
 use Rattle.rows_texts.specs.Names.{sameNames}
-use Rattle.rows.specs.Columns.{columnAt}
-use Rattle.basics.proofs.Integers.{same-as}
-use Rattle.basics.specs.Integers.{eqZ}
 use Rattle.walk.specs.declared.Found.{Found}
 use Rattle.walk.specs.declared.Found.the-variants.{Row, Nothing, Refused}
 use Rattle.walk.specs.declared.Walk.{Walk}
 use Rattle.walk.specs.declared.Turn.{Turn}
 use Rattle.law.specs.Answers.{limit}
 use Rattle.walk.specs.Walks.{begun, turnOf, stopsBy, isRow, Steady, Trace, traceBy, traceAt}
-use Rattle.rows_texts.specs.Texts.{sameTexts}
 use Rattle.names.specs.Names.{isNamed, namesSame, usedIn, isUsed, repeatIn}
 use Rattle.walk.proofs.WalkLaws.{Going, going-start, going-trace, going-less, going-more, going-end}
 

@@ -7,12 +7,9 @@ use lib.IntN.{ℤ}
 use lib.ListN.{length}
 use Rattle.rows_texts.specs.Names.{keyOf}
 use Rattle.rows.specs.RowKinds.{leadsComponent}
-use Rattle.rows.specs.Columns.{columnAt}
-use Rattle.names_slots.specs.Hashes.{hashed}
 use Rattle.names_slots.specs.Marks.{mayHold, marked}
 use Rattle.walk.specs.declared.Turn.{Turn}
 use Rattle.walk.specs.Walks.{Trace, done, stop, skip, row, traceOf}
-use Rattle.rows_texts.specs.Texts.{textAt}
 use Rattle.names.specs.Names.{isNamed, isUsed, repeatOf}
 
 -- where a test passes: a hash may have been marked; with its mark

@@ -3,12 +3,9 @@ use Prim.Native.Nat.{ℕ}
 use mathlib.Core.List.{List}
 use mathlib.Core.Bool.{Bool, false, cond, _&&_, _||_}
 use lib.Dec.{ltb}
-use lib.IntN.{ℤ, pos}
+use lib.IntN.{ℤ}
 use Rattle.rows_texts.specs.Names.{sameNames}
 use Rattle.rows.specs.RowKinds.{leadsComponent}
-use Rattle.rows.specs.Columns.{columnAt}
-use Rattle.basics.specs.Integers.{eqZ}
-use Rattle.rows_texts.specs.Texts.{sameTexts}
 use Rattle.walk.specs.declared.Turn.{Turn}
 use Rattle.walk.specs.Walks.{isRow, Trace, done, stop, skip, row, traceOf}
 

@@ -17,7 +17,7 @@
 ghost use mathlib.Core.Path.{_≡_};
 ghost use Prim.Native.Nat.{_<_};
 ghost use lib.ListN.{length};
-ghost use Rattle.names_slots.specs.Marks.{bits, spotOf, wordOf, bitOf, hasBit, withBit, hasBits, withBits, mayHold, marked};
+ghost use Rattle.names_slots.specs.Marks.{bits, spotOf, wordOf, bitOf, hasBit, withBit, mayHold, marked};
 
 // How many bits a mark sets.
 const BITS: u64 = 10;

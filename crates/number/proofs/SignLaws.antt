@@ -41,11 +41,6 @@ abs-signed true zero = refl
 abs-signed true (suc n) = refl
 abs-signed false n = refl
 
--- a number is its sign and its magnitude
-pub signed-abs : (z : ℤ) → signed (below z) (natAbs z) ≡ z
-signed-abs (pos n) = refl
-signed-abs (negsuc n) = refl
-
 -- an i64 is read back from its bits
 pub below-is : (z : ℤ) → ltZ z (pos 0) ≡ below z
 below-is (pos n) = go (ltZ (pos n) (pos 0)) refl

@@ -4,14 +4,14 @@ use mathlib.Core.Path.{_≡_, refl, sym, ap}
 use mathlib.Core.List.{List, [], _∷_}
 use mathlib.Core.Bool.{Bool, true, false, _&&_, and-true, false≢true}
 use native.Mathlib.Omega.{arith}
-use borrow.Author.Tests.{eqb-true, eq-eqb, le-leb, leb-true}
+use borrow.Author.Tests.{eqb-true, leb-true}
 use lib.Dec.{leb, eqb}
 use lib.ListN.{length, drop, getD}
 use Rattle.basics.proofs.Bools.{both}
 use Rattle.basics.proofs.Lists.{at-cons, at-end}
 use Rattle.law.specs.Numbers.{isDigit, Digit}
 use Rattle.law.specs.Dates.{valueOf, isTwo, fitsIn, isDate, Piece, two, mark, datePieces}
-use Rattle.number_read.proofs.NumberSpelling.{digit-is, digit-val, digit-of}
+use Rattle.number_read.proofs.NumberSpelling.{digit-of}
 
 -- bytes made of pieces, as a proof takes them apart
 pub data Made : List Piece → List ℕ → Type 0 where

@@ -113,7 +113,3 @@ integer-sound (b ∷ s) i h =
 held : WholeAnswer → ℤ
 held (Whole i) = i .0
 held NotInteger = pos 0
-
-pub integer-unique : {y z : ℤ} {l : List ℕ} → SpellsInteger y l → SpellsInteger z l → y ≡ z
-unfolding held
-integer-unique p q = ap held (sym (integer-complete p) ∙ integer-complete q)

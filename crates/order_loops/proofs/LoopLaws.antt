@@ -2,17 +2,16 @@
 use Prim.Native.Nat.{zero, suc}
 use mathlib.Core.Path.{_≡_, refl, sym, ap, _∙_}
 use mathlib.Core.Option.{Option, none, some}
-use mathlib.Core.Bool.{Bool, true, false, not, cond, _&&_, _||_, true≢false, false≢true, or-false}
+use mathlib.Core.Bool.{Bool, true, false, not, cond, _&&_, _||_, or-false}
 use native.Mathlib.Omega.{arith}
 use mir.Syntax.{w64}
-use mir.Val.{SFits, toZ, ofZ}
+use mir.Val.{SFits}
 use mir.ValLaws.{toZ-ofZ}
-use borrow.Author.Tests.{eqb-true, eqb-false, eq-eqb, ne-eqb}
-use lib.Dec.{eqb}
+use borrow.Author.Tests.{eqb-false, ne-eqb}
 use lib.IntN.{ℤ, pos, negsuc, sucℤ, _+ℤ_, +ℤ-sucℤ, +ℤ-idr}
 use Rattle.rows.specs.declared.Point.{Point}
 use Rattle.basics.specs.Integers.{eqZ}
-use Rattle.basics.proofs.Integers.{back, eqZ-true, eqZ-self, back-same, same-as}
+use Rattle.basics.proofs.Integers.{back, eqZ-true, back-same, same-as}
 use Rattle.order_loops.specs.Loops.{firstLabel, placeAt, samePlace, goesOn, closes, reached, loopAfter}
 use Rattle.order_loops.specs.Answers.{looped, turnsBy, begunBy, wentOn, nextLoop, secondBy, afterBack}
 use Rattle.order_loops.specs.declared.Place.{Place}

@@ -1,8 +1,7 @@
 -- Loops one point at a time: how the points of a section so far may go on.
 use mathlib.Core.Option.{Option, none, some}
 use mathlib.Core.Bool.{Bool, true, false, cond, not, _&&_, _||_}
-use lib.Dec.{eqb}
-use lib.IntN.{ℤ, pos, negsuc, sucℤ}
+use lib.IntN.{ℤ, pos, sucℤ}
 use Rattle.basics.specs.Integers.{eqZ}
 use Rattle.rows.specs.declared.Point.{Point}
 use Rattle.law.specs.Limits.{wholeTurn}

@@ -6,8 +6,7 @@ use mathlib.Core.Bool.{Bool, true, false, cond, true≢false, false≢true}
 use native.Mathlib.Omega.{arith}
 use mir.Syntax.{w64}
 use mir.Val.{Fits}
-use borrow.Author.Tests.{eq-eqb, ne-eqb, lt-ltb, le-ltb, ltb-false}
-use lib.Dec.{eqb, ltb}
+use borrow.Author.Tests.{eq-eqb, ne-eqb, lt-ltb, le-ltb}
 use lib.IntN.{ℤ}
 use lib.ListN.{length, take, drop, length-append, take-append-drop}
 use lib.Seq.{paste, length-paste, take-paste, drop-paste, take-all, drop-drop}
@@ -20,8 +19,7 @@ use Rattle.walk.specs.declared.Walk.{Walk}
 use Rattle.walk.specs.declared.Turn.{Turn}
 use Rattle.law.specs.Answers.{limit, reply, over}
 use Rattle.walk.specs.Walks.{begun, turnOf, isRow, stopsBy, Steady, Trace, row, traceBy, traceAt}
-use Rattle.names.specs.Names.{repeatOf}
-use Rattle.read.specs.Replies.{survey, checkReply, rowsIn, rowsOf, placedAt, placeBehind, RowRoom, readReply, readRows}
+use Rattle.read.specs.Replies.{checkReply, rowsIn, rowsOf, placedAt, placeBehind, RowRoom, readReply, readRows}
 use Rattle.walk.proofs.WalkLaws.{Going, going-start, going-trace, going-less, going-more, going-end}
 use Rattle.read.proofs.RowWidths.{turn-wide, check-counts}
 

@@ -1,18 +1,16 @@
 -- Laws of a row's columns, as the code leaves them.
-use Prim.Native.Nat.{ℕ, _≤_, _<_}
-use mathlib.Core.Path.{_≡_, refl, sym, _∙_}
+use Prim.Native.Nat.{ℕ, _≤_}
+use mathlib.Core.Path.{_≡_, sym, _∙_}
 use mathlib.Core.List.{List}
 use mathlib.Core.Bool.{Bool, true, false, _||_}
 use native.Mathlib.Omega.{arith}
 use mir.Syntax.{w64}
 use mir.Val.{SFits}
-use mir.ValLaws.{toZ-ofZ}
 use lib.IntN.{ℤ, pos}
 use lib.ListN.{length, List·getD-eq-default}
 use Rattle.basics.specs.Integers.{eqZ}
 use Rattle.basics.proofs.Integers.{back, same-as, back-same}
 use Rattle.law.specs.Kinds.{electricalKind, mechanicalKind}
-use Rattle.law.specs.declared.FileType.{FileType}
 use Rattle.law.specs.declared.FileType.the-variants.{Board, Panel, Library}
 use Rattle.rows.specs.Columns.{columnAt, kindColumn, fileTypeColumn, typeInRow}
 use Rattle.rows.specs.RowKinds.{componentKind, leadsComponent}

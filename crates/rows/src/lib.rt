@@ -12,9 +12,7 @@ ghost use Rattle.rows.specs.RowKinds.{leadsComponent, componentKind};
 // How many numbers a row has.
 pub const WIDTH: usize = 10;
 
-// Kinds of rows: the title line, the first line of a placement, the leading lines of components; and the last there is.
-pub const TITLE: i64 = 11;
-
+// Kinds of rows: the first line of a placement, the leading lines of components; and the last there is.
 pub const PART: i64 = 131;
 
 pub const ELECTRICAL: i64 = 141;

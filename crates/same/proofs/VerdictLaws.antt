@@ -1,14 +1,11 @@
 -- Laws of the verdicts, as the code leaves them.
-use Prim.Native.Nat.{ℕ, _≤_}
-use mathlib.Core.Path.{_≡_, refl, sym, _∙_}
+use Prim.Native.Nat.{ℕ}
+use mathlib.Core.Path.{_≡_, sym, _∙_}
 use mathlib.Core.List.{List}
 use mathlib.Core.Bool.{Bool, true, false}
-use native.Mathlib.Omega.{arith}
-use borrow.Author.Tests.{ltb-false, eq-eqb, ne-eqb}
-use lib.Dec.{ltb}
-use lib.ListN.{length}
+use borrow.Author.Tests.{eq-eqb, ne-eqb}
 use Rattle.law.specs.declared.Reply.{Reply}
-use Rattle.law.specs.Answers.{limit, verdict}
+use Rattle.law.specs.Answers.{verdict}
 use Rattle.read.specs.Replies.{checkReply}
 use Rattle.same.specs.declared.Ignored.{Ignored}
 use Rattle.law.specs.declared.Verdict.{Verdict}

@@ -36,7 +36,7 @@ unfolding judgeReply withLibrary matched placed examined
 judged board library {rs} {qs} h i s u =
     rw (check-count board h s, check-count library i u, le-ltb limit (length board) h, le-ltb limit (length library) i, trace-typed board rs s, trace-typed library qs u, placed-said board library qs (trace-holds library qs u) (trace-holds board rs s) 0)
 
--- files that say the same lists get the same verdict
+-- files that say the same lists get the same verdict; for W-213
 pub judged-lists-only : (board other library second : List ℕ) {rs qs : List Rec} → length board ≤ limit → length other ≤ limit → length library ≤ limit → length second ≤ limit
     → FileSays Idf3 rs board → FileSays Idf3 rs other → FileSays Idf3 qs library → FileSays Idf3 qs second
     → judgeReply board library ≡ judgeReply other second

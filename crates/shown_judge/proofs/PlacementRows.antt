@@ -1,36 +1,29 @@
 -- What judging finds in the rows of two files is what the records say: the entries, the placements.
 use Prim.Native.Nat.{ℕ, _+_}
-use mathlib.Core.Path.{_≡_, refl, ap, _∙_}
+use mathlib.Core.Path.{_≡_, refl, ap}
 use mathlib.Core.List.{List, [], _∷_, _++_}
-use mathlib.Core.Bool.{Bool, true, false, cond, not, _&&_, _||_, false≢true}
-use native.Mathlib.Omega.{arith}
-use borrow.Author.Tests.{eqb-true, leb-true}
-use lib.Dec.{leb, eqb}
+use mathlib.Core.Bool.{Bool, true, false, cond, _&&_, _||_, false≢true}
+use borrow.Author.Tests.{eqb-true}
+use lib.Dec.{eqb}
 use lib.IntN.{ℤ, pos}
 use lib.ListN.{replicate}
-use Rattle.rows_texts.specs.Names.{sameNames, refers}
-use Rattle.rows.specs.Columns.{columnAt, typeInRow, kindColumn, referenceLength, referenceStart}
-use Rattle.basics.proofs.Bools.{both, other}
-use Rattle.basics.proofs.Tables.{below-all}
+use Rattle.rows_texts.specs.Names.{sameNames, refers, referenceIn}
+use Rattle.rows.specs.Columns.{kindColumn}
 use Rattle.basics.specs.Integers.{eqZ}
 use Rattle.law.specs.Values.{Value, Rec}
 use Rattle.law.specs.Sections.{sections}
-use Rattle.law.specs.Kinds.{sectionOf, lineOf, opening, title, roleOf, partKind, electricalKind, mechanicalKind}
+use Rattle.law.specs.Kinds.{sectionOf, lineOf, partKind}
 use Rattle.law.specs.Layouts.{layoutOf, typesOf}
 use Rattle.law.specs.Fits.{meaning}
 use Rattle.law.specs.declared.Rules.the-variants.{Idf3}
-use Rattle.law.specs.declared.FileType.{FileType}
-use Rattle.law.specs.declared.FileType.the-variants.{Library}
 use Rattle.law.specs.declared.FieldType.{FieldType}
 use Rattle.law.specs.declared.FieldType.the-variants.{Text as T, Reference as Ref}
 use Rattle.law.specs.Rows.{Means, none, aNumber, aText, Holds}
-use Rattle.law.specs.Records.{typeIn, Named, namesAComponent, nameIn}
-use Rattle.order.specs.Automaton.{isRole, sameName}
-use Rattle.law.specs.Lists.{Header, header-of, header-of-library, Permitted, a-board, a-panel, a-library}
+use Rattle.law.specs.Records.{Named, namesAComponent, nameIn}
+use Rattle.order.specs.Automaton.{sameName}
 use Rattle.walk.specs.Walks.{Trace, traceOf}
-use Rattle.rows_texts.specs.Texts.{textAt, textIs, sameTexts}
-use Rattle.law.specs.Files.{titled}
-use Rattle.shown_read.proofs.RowColumns.{nameAt, type-in, name-in}
+use Rattle.rows_texts.specs.Texts.{textIs, sameTexts}
+use Rattle.shown_read.proofs.RowColumns.{nameAt, name-in}
 use Rattle.judge.specs.Entries.{entryIn, hasEntry, lacksEntry}
 use Rattle.law.specs.Answers.{verdict}
 use Rattle.judge.specs.Verdicts.{placedFrom}
@@ -62,7 +55,7 @@ module _ (board library : List ℕ) (x : List ℤ) (k : ℕ) (c : namesAComponen
 -- Placements: three texts
 
 abbrev placementAt : List ℕ → List ℤ → Placement
-placementAt file x = record { name = nameAt file x; reference = textAt file (referenceStart x) (referenceLength x) }
+placementAt file x = record { name = nameAt file x; reference = referenceIn file x }
 
 part-types : typesOf Idf3 partKind ≡ T ∷ T ∷ Ref ∷ []
 unfolding typesOf layoutOf sectionOf lineOf sections

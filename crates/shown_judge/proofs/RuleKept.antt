@@ -10,7 +10,7 @@ use lib.Dec.{eqb}
 use lib.ListN.{length}
 use Rattle.shown_lists.proofs.Names.{name-true, name-same}
 use Rattle.law.specs.Kinds.{electricalKind, mechanicalKind}
-use Rattle.basics.proofs.Bytes.{bytes-true, bytes-self, bytes-same, bytes-differ, bytes-false}
+use Rattle.basics.proofs.Bytes.{bytes-true, bytes-same, bytes-differ, bytes-false}
 use Rattle.basics.proofs.Bools.{both, not-both}
 use Rattle.law.specs.Values.{Rec}
 use Rattle.law.specs.Words.{boardWord, noReference, sameBytes}

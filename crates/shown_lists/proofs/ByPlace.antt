@@ -1,13 +1,12 @@
 -- In a state, a data line that is not misplaced can have one kind only: its place, and whether it says PROP, decide.
-use Prim.Native.Nat.{ℕ, _≤_}
+use Prim.Native.Nat.{ℕ}
 use mathlib.Core.Path.{_≡_, refl, sym, ap, _∙_, subst}
 use mathlib.Core.Option.{Option, none, some}
-use mathlib.Core.Bool.{Bool, true, false, cond, _&&_, false≢true, and-false}
+use mathlib.Core.Bool.{Bool, true, false, cond, false≢true}
 use native.Mathlib.Omega.{arith}
 use lib.Dec.{eqb}
 use borrow.Author.Tests.{eqb-true}
 use Rattle.rows.specs.declared.Point.{Point}
-use Rattle.basics.proofs.Bools.{eqb-self, none-some}
 use Rattle.law.specs.Values.{Rec}
 use Rattle.law.specs.Sections.{Shape, header, outline, component, keepout, listing, placements}
 use Rattle.law.specs.Kinds.{kindAt, sectionOf, lineOf, Role, opening, closing, title, name, lead, point, prop, entry, part, position, unknown, dataRole, roleIn, roleOf}
@@ -19,10 +18,9 @@ use Rattle.order.specs.Marks.{pointOf}
 use Rattle.order_loops.specs.Loops.{loopAfter, complete}
 use Rattle.order.specs.Stages.{fileOf}
 use Rattle.order.specs.Places.{pointLine, hasProps, lineAt}
-use Rattle.order.specs.Automaton.{isRole, if-fit, afterTitle, afterPoint, onlyIf, atPhase, advance, mayStand, movedIn, moved}
+use Rattle.order.specs.Automaton.{isRole, if-fit, afterPoint, onlyIf, atPhase, advance, mayStand, movedIn, moved}
 use Rattle.order.specs.declared.Stage.{Stage}
 use Rattle.order_loops.specs.declared.LoopState.{LoopState}
-use Rattle.order_loops.specs.declared.LoopState.the-variants.{NoPoint as noPoint}
 use Rattle.order.specs.declared.Phase.{Phase}
 use Rattle.order.specs.declared.Phase.the-variants.{AwaitTitle as awaitTitle, AwaitName as awaitName, HeaderFull as headerFull, AwaitLead as awaitLead, InPoints as inPoints, InProps as inProps, InList as inList, AwaitPart as awaitPart, AwaitPosition as awaitPosition}
 use Rattle.order.specs.declared.State.{State}
@@ -31,9 +29,8 @@ use Rattle.order.specs.declared.Reason.the-variants.{Misplaced as misplaced, Un
 use Rattle.order.specs.declared.Outcome.{Outcome}
 use Rattle.order.specs.declared.Outcome.the-variants.{Next as next, Refused as refused}
 use Rattle.order.proofs.Steps.{advance-is}
-use Rattle.shown_lists.proofs.Roles.{isSection, isRole-true, hasPoints, point-line, lead-first, role-is, prop-component}
-use Rattle.shown_lists.proofs.Tables.{section-at, role-at, kind-of}
-use Rattle.shown_lists.proofs.Sane.{SaneIn, sane-title, sane-name, sane-full, sane-lead, sane-points, sane-props, sane-list, sane-part, sane-position, Sane, sane-inside}
+use Rattle.shown_lists.proofs.Roles.{isRole-true, role-is, prop-component}
+use Rattle.shown_lists.proofs.Tables.{kind-of}
 
 -- the line that has a role in a section of this form
 abbrev lineFor : Shape → Role → ℕ
@@ -173,67 +170,6 @@ stands-only : (b : Bool) (st : State) → Stands (onlyIf b (next st))
 stands-only true st = stands-next st
 stands-only false st = stands-bad
 
-some-same : {a b : ℕ} → some a ≡ some b → a ≡ b
-some-same {a} {b} e = cc
-
-module _ (v : Rules) (g : Stage) (s : ℕ) (r : Rec) (known : isSection v s ≡ true) where
-  stands-by : (p : Phase) (n m : ℕ) (a : Role) → m ≤ 9 → roleIn (shapeOf v s) m ≡ a → Stands (atPhase g s p a (wellFormed (under v (fileOf g)) r) r)
-      → some m ≡ some n → r .kind ≡ kindAt v s n → Stands (advance v (inside g s p) r)
-  unfolding advance
-  stands-by p n m a l e h i k =
-      let j : r .kind ≡ kindAt v s m = k ∙ ap (kindAt v s) (sym (some-same i)) in
-      let x : sectionOf v (r .kind) ≡ s = ap (sectionOf v) j ∙ section-at v s m known l in
-      let y : roleOf v (r .kind) ≡ a = ap (roleOf v) j ∙ role-at v s m known l ∙ e in
-      rw (x, y, eqb-self s) h
-
-  abbrev fit : Bool
-  fit = wellFormed (under v (fileOf g)) r
-
-  to-next : (st : State) → Stands (cond fit (next st) (refused unfit))
-  to-next st = stands-fit fit (next st) (stands-next st)
-
-  point-or-prop : {n : ℕ} (l : LoopState) (b : Bool) → hasPoints (shapeOf v s) ≡ true → (b ≡ true → shapeOf v s ≡ component)
-      → cond b (some 3) (some (pointLine (shapeOf v s))) ≡ some n
-      → r .kind ≡ kindAt v s n → Stands (advance v (inside g s (inPoints l)) r)
-  point-or-prop {n} l true h f i k = stands-by (inPoints l) n 3 prop (omega arith) (ap (λ (x : Shape). roleIn x 3) (f refl)) (stands-fit fit _ (stands-only (complete l) (inside g s inProps))) i k
-  point-or-prop {n} l false h f i k =
-      let w = point-line (shapeOf v s) h in
-      stands-by (inPoints l) n (pointLine (shapeOf v s)) point (w .1) (w .0) (stands-fit fit _ (stands-point g s (loopAfter (manyLoops s) l (pointOf r)))) i k
-
-  prop-only : {n : ℕ} (b : Bool) → (b ≡ true → shapeOf v s ≡ component) → cond b (some 3) none ≡ some n → r .kind ≡ kindAt v s n
-      → Stands (advance v (inside g s inProps) r)
-  prop-only {n} true f i k = stands-by inProps n 3 prop (omega arith) (ap (λ (x : Shape). roleIn x 3) (f refl)) (to-next (inside g s inProps)) i k
-  prop-only false f i k = absurd (none-some i)
-
-  has-props : (b : Bool) (f : Shape) → (b && hasProps f) ≡ true → f ≡ component
-  has-props b component h = refl
-  has-props b header h = absurd (false≢true (sym (and-false b) ∙ h))
-  has-props b outline h = absurd (false≢true (sym (and-false b) ∙ h))
-  has-props b keepout h = absurd (false≢true (sym (and-false b) ∙ h))
-  has-props b listing h = absurd (false≢true (sym (and-false b) ∙ h))
-  has-props b placements h = absurd (false≢true (sym (and-false b) ∙ h))
-
-  place-in : {p : Phase} {n : ℕ} (b : Bool) → SaneIn v g s p → lineAt (shapeOf v s) p b ≡ some n → r .kind ≡ kindAt v s n
-      → Stands (advance v (inside g s p) r)
-  place-in {n = n} b (sane-title f) i k = stands-by awaitTitle n 1 title (omega arith) (ap (λ (x : Shape). roleIn x 1) f) (to-next (inside g s (afterTitle (typeIn r)))) i k
-  place-in {n = n} b (sane-name {t = t} f) i k = stands-by (awaitName t) n 2 name (omega arith) (ap (λ (x : Shape). roleIn x 2) f) (to-next (inside g s (headerFull t))) i k
-  place-in b sane-full i k = absurd (none-some i)
-  place-in {n = n} b (sane-lead h) i k = stands-by awaitLead n 1 lead (omega arith) (lead-first (shapeOf v s) h) (to-next (inside g s (inPoints noPoint))) i k
-  place-in b (sane-points {l = l} h f) i k = point-or-prop l (b && hasProps (shapeOf v s)) h (has-props b (shapeOf v s)) i k
-  place-in b sane-props i k = prop-only (b && hasProps (shapeOf v s)) (has-props b (shapeOf v s)) i k
-  place-in {n = n} b (sane-list f) i k = stands-by inList n 1 entry (omega arith) (ap (λ (x : Shape). roleIn x 1) f) (to-next (inside g s inList)) i k
-  place-in {n = n} b (sane-part f) i k = stands-by awaitPart n 1 part (omega arith) (ap (λ (x : Shape). roleIn x 1) f) (to-next (inside g s awaitPosition)) i k
-  place-in {n = n} b (sane-position f) i k = stands-by awaitPosition n 2 position (omega arith) (ap (λ (x : Shape). roleIn x 2) f) (to-next (inside g s awaitPart)) i k
-
--- in a state that can be reached, the data line of the place is not misplaced
-pub place-stands : (v : Rules) (g : Stage) (s : ℕ) (r : Rec) {p : Phase} {n : ℕ} (b : Bool) → Sane v (inside g s p)
-    → lineAt (shapeOf v s) p b ≡ some n → r .kind ≡ kindAt v s n
-    → advance v (inside g s p) r ≡ refused misplaced → ⊥
-unfolding Stands
-place-stands v g s r b (sane-inside i h) = place-in v g s r i b h
-
--- the same of kinds: what may stand is given by its place, and what its place gives may stand
-
 stands-moved : (v : Rules) (st : State) (k : ℕ) (t : FileType) (d : Point) → Stands (moved v st k t d)
 unfolding moved
 stands-moved v (between g) k t d = stands-next _
@@ -259,12 +195,3 @@ pub kind-by-place : (v : Rules) (g : Stage) (s : ℕ) (p : Phase) (r : Rec) → 
 unfolding Stands
 kind-by-place v g s p r m c =
     by-place v g s p r c (λ h. stands-fit (wellFormed (under v (fileOf g)) r) _ (stands-moved v (inside g s p) (r .kind) (typeIn r) (pointOf r)) (sym (rw m at (advance-is v (inside g s p) r)) ∙ h))
-
-pub place-may-stand : (v : Rules) (g : Stage) (s : ℕ) (r : Rec) {p : Phase} {n : ℕ} (b : Bool) → Sane v (inside g s p)
-    → lineAt (shapeOf v s) p b ≡ some n → r .kind ≡ kindAt v s n
-    → mayStand v (inside g s p) (r .kind) ≡ true
-place-may-stand v g s r {p} b h i k = go (mayStand v (inside g s p) (r .kind)) refl
-  where
-    go : (b : Bool) → mayStand v (inside g s p) (r .kind) ≡ b → b ≡ true
-    go true e = refl
-    go false e = absurd (place-stands v g s r b h i k (rw e at (advance-is v (inside g s p) r)))

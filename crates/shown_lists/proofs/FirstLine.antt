@@ -119,10 +119,6 @@ module _ (v : Rules) where
   sane-leads here h = h
   sane-leads (step {r = r} e k) h = sane-leads k (subst (SaneOf v) e (sane-advance v r h))
 
-  -- a state that a run reaches is one of those from which there is an end
-  pub through-sane : (rs : List Rec) (used : List Named) (en : State) → run v used start rs ≡ through en → Sane v en
-  through-sane rs used en h = sane-leads (through-leads rs used start en h .0) sane-between
-
   permitted-on : {rs : List Rec} {en : State} → Leads v start rs en → (ms : List Rec) → accepts v en ms ≡ true → Permitted v (rs ++ ms)
   permitted-on {rs} l ms h = accepted-permitted v (rs ++ ms) (leads-accepts v l ms ∙ h)
 

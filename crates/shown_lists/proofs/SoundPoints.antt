@@ -22,7 +22,7 @@ use Rattle.order_loops.specs.declared.Place.{Place as Spot}
 use Rattle.order_loops.specs.declared.LoopState.{LoopState}
 use Rattle.order_loops.specs.declared.LoopState.the-variants.{NoPoint as noPoint, OnePoint as onePoint, Away as away, Back as back, Round as round}
 use Rattle.law.specs.Lists.{Line, PointLine, Step, Return, last, further, Loop, circle, path, Loops, final, another, Points, numbered, single}
-use Rattle.shown_lists.proofs.Spots.{same-true, same-spot, same-false, spot, spotOf}
+use Rattle.shown_lists.proofs.Spots.{same-spot, same-false, spot, spotOf}
 
 module _ (v : Rules) (t : FileType) (s : ℕ) where
   -- after a complete loop: nothing, or loops with the labels after it

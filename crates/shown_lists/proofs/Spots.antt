@@ -1,17 +1,14 @@
 -- A place as the loop rule holds it, and as the law does.
-use Prim.Native.Nat.{ℕ, zero, suc, _<_}
-use mathlib.Core.Path.{_≡_, refl, sym, ap, ap₂, _∙_}
-use mathlib.Core.Logic.{_≢_, _⊎_, inl, inr}
-use mathlib.Core.List.{List, [], _∷_}
-use mathlib.Core.Bool.{Bool, true, false, not, _&&_, _||_, true≢false, false≢true}
+use Prim.Native.Nat.{ℕ, zero, suc}
+use mathlib.Core.Path.{_≡_, ap}
+use mathlib.Core.Logic.{_≢_}
+use mathlib.Core.List.{[]}
+use mathlib.Core.Bool.{true, false}
 use native.Mathlib.Omega.{arith}
-use lib.Dec.{eqb}
 use lib.IntN.{ℤ, pos, negsuc, sucℤ}
-use borrow.Author.Tests.{eqb-true, eqb-false, eq-eqb}
 use Rattle.basics.proofs.Integers.{eqZ-true, eqZ-same}
 use Rattle.basics.proofs.Bools.{both, not-both, fails}
 use Rattle.basics.specs.Integers.{eqZ}
-use Rattle.law.specs.Words.{sameBytes}
 use Rattle.law.specs.Values.{Rec}
 use Rattle.law.specs.Records.{Place}
 use Rattle.order.specs.Marks.{pointOf}

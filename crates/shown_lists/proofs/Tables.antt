@@ -9,7 +9,7 @@ use native.Mathlib.Omega.{arith}
 use lib.Dec.{leb, eqb}
 use lib.IntN.{pos}
 use lib.ListN.{length}
-use borrow.Author.Tests.{eqb-true, leb-true, le-leb, not-true}
+use borrow.Author.Tests.{eqb-true, le-leb, not-true}
 use Rattle.rows.proofs.EachKind.{each-kind}
 use Rattle.basics.proofs.Tables.{below-all}
 use Rattle.basics.proofs.Bools.{both, either, other, not-both}
@@ -178,11 +178,3 @@ laid v k h = go (layoutOf v k) refl (as-asked v k)
           free = λ p. other (isRole role part) (noReference (l .types)) p (y .1);
           measured = λ p. other (not (isRole role point)) (pointable v (l .types)) (rw p) (x .1);
         }
-
--- a kind without a role has no layout, so no record of it is well formed
-pub unlaid : (v : Rules) (k : ℕ) → roleOf v k ≡ unknown → layoutOf v k ≡ none
-unlaid v k h = go (layoutOf v k) (rw h at (as-asked v k))
-  where
-    go : (o : Option Layout) → asked v unknown o ≡ true → o ≡ none
-    go none a = refl
-    go (some l) a = absurd (false≢true a)

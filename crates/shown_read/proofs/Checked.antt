@@ -4,7 +4,6 @@ use mathlib.Core.Path.{_≡_, refl, sym, ap, _∙_}
 use mathlib.Core.Logic.{_↔_}
 use mathlib.Core.List.{List, [], _++_, append-assoc}
 use mathlib.Core.Bool.{Bool, true, false, cond}
-use native.Mathlib.Decide.{decLt}
 use native.Mathlib.Omega.{arith}
 use borrow.Author.Tests.{lt-ltb}
 use lib.ListN.{length, take, drop, take-append-drop}
@@ -70,11 +69,6 @@ module _ (file : List ℕ) where
   number-last (early m d) z = (m, d)
   number-last (fails a b f) z = absurd (omega arith)
 
-  number-two : {x : Reply} → Answered file x → x .number ≡ 2 → ⊥
-  number-two (says s) z = omega arith
-  number-two (early m d) z = omega arith
-  number-two (fails a b f) z = omega arith
-
   only-early : {x : Reply} → Answered file x → Mendable Idf3 (linesOf file) → ((rs : List Rec) → FileSays Idf3 rs file → ⊥) → x ≡ reply 13 (length (linesOf file) + 1) 0
   only-early (says {rs} s) m d = absurd (d rs s)
   only-early (early n e) m d = refl
@@ -121,10 +115,3 @@ module _ (file : List ℕ) where
     -- 13, on the line behind the last, exactly where the lines can be mended and the file says no list
     pub check-early : (checkReply file ≡ reply 13 (length (linesOf file) + 1) 0) ↔ (Mendable Idf3 (linesOf file) × ((rs : List Rec) → FileSays Idf3 rs file → ⊥))
     check-early = (λ e. number-last (rw e at check-answers) refl, λ w. only-early check-answers (w .0) (w .1))
-
-  -- 2 is never the answer: it is for `read` alone
-  pub check-not-two : checkReply file .number ≡ 2 → ⊥
-  check-not-two z = elim (decLt limit (length file)) [
-    | yes h ↦ let e = ap (λ (r : Reply). r .number) (check-large h) in omega arith
-    | no h ↦ number-two (check-answers (omega arith)) z
-  ]

@@ -6,9 +6,7 @@ use mathlib.Core.Option.{Option, none, some}
 use mathlib.Core.Bool.{Bool, true, false, cond, not, _&&_, _||_, false≢true}
 use native.Mathlib.Omega.{arith}
 use lib.Dec.{leb, eqb, eqb·suc-zero, eqb·suc-suc}
-use borrow.Author.Tests.{leb-true}
 use Rattle.rows.proofs.EachKind.{each-kind}
-use Rattle.basics.proofs.Tables.{below-all}
 use Rattle.basics.proofs.Bools.{both, other, not-both, none-some}
 use Rattle.law.specs.Sections.{Shape, header, outline, component, keepout, listing, placements, SectionForm, nth, sections, sectionAt}
 use Rattle.law.specs.Kinds as role

@@ -1,28 +1,22 @@
 -- A line that spells a record in a file of one type spells it in a file of any type in which the record is well formed.
 use Prim.Native.Nat.{ℕ}
-use mathlib.Core.Path.{_≡_, refl, sym, _∙_}
+use mathlib.Core.Path.{_≡_}
 use mathlib.Core.List.{List}
-use mathlib.Core.Bool.{Bool, true, false}
+use mathlib.Core.Bool.{true}
 use lib.Dec.{leb}
 use lib.IntN.{natAbs}
 use borrow.Author.Tests.{not-true}
-use Rattle.basics.proofs.Bools.{both, none-some}
+use Rattle.basics.proofs.Bools.{both}
 use Rattle.law.specs.Fields.{Field}
 use Rattle.law.specs.Limits.{largestLength}
 use Rattle.law.specs.Values.{Value, Rec}
-use Rattle.law.specs.Kinds.{part, unknown, roleOf}
 use Rattle.law.specs.Layouts.{Front}
 use Rattle.law.specs.Fits.{under, kept, meaning, goodText, fits, fitsAll, wellFormed, WellFormed}
 use Rattle.law.specs.declared.Rules.{Rules}
 use Rattle.law.specs.declared.FileType.{FileType}
 use Rattle.law.specs.declared.FieldType.{FieldType}
 use Rattle.law.specs.declared.FieldType.the-variants.{Reference as Ref}
-use Rattle.order.specs.Automaton.{isRole}
-use Rattle.shown_lists.proofs.Roles.{isRole-true}
-use Rattle.shown_lists.proofs.Tables.{unlaid}
-use Rattle.shown_lists.proofs.Samples.{retype}
 use Rattle.law.specs.RecordSpelling.{SpellsField, asText, asReference, asDate, asInteger, asNumber, asWord, SpellsFields, none as noFields, more, SpellsLine, withKeyword, withProp, asData, SpellsRecord, asLine}
-use Rattle.shown_spelling.proofs.RecordSpelling.{record-fits}
 
 module _ {v : Rules} {a : FileType} (b : FileType) where
   -- only a reference depends on the file's type, and what is well formed holds none that is barred
@@ -48,15 +42,3 @@ module _ {v : Rules} {a : FileType} (b : FileType) where
   pub spelled-again : {r : Rec} {l : List ℕ} → SpellsRecord (under v a) r l → WellFormed (under v b) r → SpellsRecord (under v b) r l
   unfolding wellFormed
   spelled-again (asLine e p) h = asLine e (line-again p (rw e at h))
-
-spelled-known : {v : Rules} {a : FileType} {r : Rec} {l : List ℕ} → SpellsRecord (under v a) r l → isRole (roleOf v (r .kind)) unknown ≡ false
-spelled-known {v} {r = r} (asLine e p) = go (isRole (roleOf v (r .kind)) unknown) refl
-  where
-    go : (b : Bool) → isRole (roleOf v (r .kind)) unknown ≡ b → b ≡ false
-    go true i = absurd (none-some (sym (unlaid v (r .kind) (isRole-true _ _ i)) ∙ e))
-    go false i = refl
-
--- so a line of any role but a part's, and with it the whole header, is spelled the same in every file
-pub spelled-any : {v : Rules} {a : FileType} (b : FileType) {r : Rec} {l : List ℕ} → isRole (roleOf v (r .kind)) part ≡ false → SpellsRecord (under v a) r l
-    → SpellsRecord (under v b) r l
-spelled-any {v} b h p = spelled-again b p (retype v b (spelled-known p) h (record { in-section = refl; has-role = refl; is-good = record-fits p }) .is-good)

@@ -4,14 +4,12 @@ use mathlib.Core.Path.{_≡_, refl}
 use mathlib.Core.List.{List, [], _∷_, _++_}
 use mathlib.Core.Bool.{Bool, true, false, not, _&&_, _||_, false≢true}
 use native.Mathlib.Omega.{arith}
-use borrow.Author.Tests.{leb-true}
-use lib.Dec.{leb}
 use lib.IntN.{ℤ, pos}
 use lib.ListN.{getD, replicate}
+use Rattle.rows_texts.specs.Names.{geometryIn, partIn}
 use Rattle.rows.proofs.EachKind.{each-kind}
 use Rattle.rows.specs.RowKinds.{leadsComponent}
-use Rattle.rows.specs.Columns.{columnAt, pointIn, typeInRow, geometryLength, geometryStart, partLength, partStart}
-use Rattle.basics.proofs.Tables.{below-all}
+use Rattle.rows.specs.Columns.{pointIn, typeInRow}
 use Rattle.basics.proofs.Bools.{other, both}
 use Rattle.basics.specs.Integers.{eqZ}
 use Rattle.law.specs.Values.{Value, word, Rec}
@@ -29,11 +27,10 @@ use Rattle.law.specs.Records.{numOf, wordOf, bytesOf, typeIn, Named, namesAComp
 use Rattle.order.specs.Marks.{pointOf}
 use Rattle.order.specs.Automaton.{isRole}
 use Rattle.shown_lists.proofs.Tables.{component-fields}
-use Rattle.rows_texts.specs.Texts.{textAt}
 
 -- the component in the row of a leading line: the texts of its first two fields
 abbrev pub nameAt : List ℕ → List ℤ → Named
-nameAt file x = record { geometry = textAt file (geometryStart x) (geometryLength x); number = textAt file (partStart x) (partLength x) }
+nameAt file x = record { geometry = geometryIn file x; number = partIn file x }
 
 -- What the types in front of a layout are
 

@@ -35,10 +35,6 @@ found-line : (b : Bool) → foundSame b .line ≡ 0
 found-line true = refl
 found-line false = refl
 
-found-which : (b : Bool) → foundSame b .which ≡ 0
-found-which true = refl
-found-which false = refl
-
 -- files within the limit that say lists
 module _ (f h : List ℕ) (a : length f ≤ limit) (b : length h ≤ limit) {rs qs : List Rec} (s : FileSays Idf3 rs f) (t : FileSays Idf3 qs h) where
   same-is : sameReply f h ≡ foundSame (sameRecs rs qs)
@@ -58,9 +54,6 @@ module _ (f h : List ℕ) (a : length f ≤ limit) (b : length h ≤ limit) {rs 
 
   pub same-line : sameReply f h .line ≡ 0
   same-line = ap (λ (v : Verdict). v .line) same-is ∙ found-line (sameRecs rs qs)
-
-  pub same-which : sameReply f h .which ≡ 0
-  same-which = ap (λ (v : Verdict). v .which) same-is ∙ found-which (sameRecs rs qs)
 
 -- Sameness: the count is 1
 
@@ -95,6 +88,7 @@ module _ (f h : List ℕ) (a : checkReply f .number ≡ 0) (b : checkReply h .nu
   same-lists : {rs qs : List Rec} → FileSays Idf3 rs f → FileSays Idf3 qs h → Same f h ↔ (rs ≡ qs)
   same-lists s t = same-iff f h (accepted-small f (checkReply f) refl a) (accepted-small h (checkReply h) refl b) s t
 
+-- sameness is an equivalence of accepted files; for W-213
 pub same-reflexive : (f : List ℕ) → checkReply f .number ≡ 0 → Same f f
 same-reflexive f a = let w = accepted-says f a in same-lists f f a a (w .1) (w .1) .1 refl
 

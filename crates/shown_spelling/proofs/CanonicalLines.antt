@@ -11,9 +11,7 @@ use Rattle.basics.proofs.Bools.{and-left, and-right, neither}
 use Rattle.law.specs.Bytes as by
 use Rattle.law.specs.Bytes.{permitted, All, begins}
 use Rattle.law.specs.Fields.{Field, field, Spells, bare, quoted, Spelled}
-use Rattle.text_fields.specs.Fields.{fieldsOf}
 use Rattle.law.specs.Fields as sp
-use Rattle.text_fields.proofs.FieldSpelling.{fields-complete}
 use Rattle.law.specs.Values.{Value, Rec}
 use Rattle.law.specs.Words.{propWord, sameBytes}
 use Rattle.law.specs.Layouts.{Front, keyword, prop, plain, Layout, layoutOf}
@@ -25,8 +23,7 @@ use Rattle.law.specs.RecordSpelling.{SpellsFields, none as noFields, more, isDa
 use Rattle.law.specs.Canonical.{canonicalFields, written, joined, withFront, canonicalLine, canonicalRecord}
 use Rattle.shown_spelling.proofs.BareBytes.{tight, safe, nameByte, all-append, all-map, tight-bare, tight-permitted, text-permitted, text-quoted, tight-name, name-not-small}
 use Rattle.shown_spelling.proofs.Tables.{goodFront, layout-front}
-use Rattle.shown_spelling.proofs.LineSpelling.{First, line-first}
-use Rattle.shown_spelling.proofs.RecordSpelling.{Reads, record-complete, record-fits, record-unique}
+use Rattle.shown_spelling.proofs.RecordSpelling.{record-unique}
 use Rattle.shown_spelling.proofs.CanonicalFields.{Writes, asBare, asQuoted, field-canon}
 
 -- Fields that stand in a line as they are written
@@ -108,42 +105,29 @@ module _ (c : Context) where
       let r = fields-canon ts vs (and-right (fits c t v) _ h) in
       record { spells = more (p .spells) (r .spells); fines = fine (writes-fine (p .writes)) (r .fines) }
 
-  record CanonLine (f : Front) (ts : List FieldType) (vs : List Value) (s : List ℕ) : Type 0 where
-    spells : SpellsLine c f ts vs s
-    fields : Spelled (withFront f (canonicalFields (c .rules) ts vs)) s
-
-  line-canon : (f : Front) (ts : List FieldType) (vs : List Value) → goodFront f ts ≡ true → fitsAll c ts vs ≡ true → CanonLine f ts vs (canonicalLine (c .rules) f ts vs)
+  line-canon : (f : Front) (ts : List FieldType) (vs : List Value) → goodFront f ts ≡ true → fitsAll c ts vs ≡ true → SpellsLine c f ts vs (canonicalLine (c .rules) f ts vs)
   unfolding canonicalLine goodFront fitsAll canonicalFields permitted
   line-canon (keyword k) ts vs h g =
       let r = fields-canon ts vs g in
       let a = all-sound nameByte k h in
       let p : Fines (field false (46 ∷ k) ∷ canonicalFields (c .rules) ts vs) = fine (tight-fine (by.one refl (all-map tight-name a))) (r .fines) in
-      record { spells = withKeyword (name-case k a) (r .spells) (joined-spelled p) (joined-clean p); fields = joined-spelled p }
+      withKeyword (name-case k a) (r .spells) (joined-spelled p) (joined-clean p)
   line-canon prop ts vs h g =
       let r = fields-canon ts vs g in
       let t : All tight propWord = by.one refl (by.one refl (by.one refl (by.one refl by.none))) in
       let p : Fines (field false propWord ∷ canonicalFields (c .rules) ts vs) = fine (tight-fine t) (r .fines) in
-      record { spells = withProp prop-self (r .spells) (joined-spelled p) (joined-clean p); fields = joined-spelled p }
+      withProp prop-self (r .spells) (joined-spelled p) (joined-clean p)
   line-canon plain [] vs h g = absurd (false≢true h)
   line-canon plain (t ∷ ts) [] h g = absurd (false≢true g)
   line-canon plain (t ∷ ts) (v ∷ vs) h g =
       let r = fields-canon (t ∷ ts) (v ∷ vs) g in
       let w = field-canon c t v (and-left (fits c t v) _ g) .writes in
       let fs = canonicalFields (c .rules) ts vs in
-      record { spells = asData (first-data fs w) (joined-first fs w) (r .spells) (joined-spelled (r .fines)) (joined-clean (r .fines)); fields = joined-spelled (r .fines) }
+      asData (first-data fs w) (joined-first fs w) (r .spells) (joined-spelled (r .fines)) (joined-clean (r .fines))
 
-  record-canon : (r : Rec) (l : Layout) → layoutOf (c .rules) (r .kind) ≡ some l → WellFormed c r → CanonLine (l .front) (l .types) (r .values) (canonicalRecord (c .rules) r)
+  record-canon : (r : Rec) (l : Layout) → layoutOf (c .rules) (r .kind) ≡ some l → WellFormed c r → SpellsLine c (l .front) (l .types) (r .values) (canonicalRecord (c .rules) r)
   unfolding wellFormed canonicalRecord
   record-canon r l e h = rw e (line-canon (l .front) (l .types) (r .values) (layout-front (c .rules) (r .kind) l e) (rw e at h))
-
-  module _ (r : Rec) (l : Layout) (e : layoutOf (c .rules) (r .kind) ≡ some l) (h : WellFormed c r) where
-    -- The canonical line of a well-formed record of a layout is no comment, has no forbidden byte, and is a keyword line exactly if its front is a keyword
-    pub canonical-first : First (l .front) (canonicalRecord (c .rules) r)
-    canonical-first = line-first (record-canon r l e h .spells)
-
-    -- its fields are the front and the canonical fields of the values
-    pub canonical-fields : fieldsOf (canonicalRecord (c .rules) r) ≡ some (withFront (l .front) (canonicalFields (c .rules) (l .types) (r .values)))
-    canonical-fields = fields-complete (canonicalRecord (c .rules) r) _ (record-canon r l e h .fields)
 
   -- It spells the record
   pub canonical-spells : (r : Rec) → WellFormed c r → SpellsRecord c r (canonicalRecord (c .rules) r)
@@ -152,16 +136,8 @@ module _ (c : Context) where
     where
       go : (o : Option Layout) → layoutOf (c .rules) (r .kind) ≡ o → fitsBy c o (r .values) ≡ true → SpellsRecord c r (canonicalRecord (c .rules) r)
       go none e g = absurd (false≢true g)
-      go (some l) e g = asLine e (record-canon r l e h .spells)
-
-  -- so reading it gives the values back
-  pub canonical-reads : (r : Rec) → WellFormed c r → Reads c r (canonicalRecord (c .rules) r)
-  canonical-reads r h = record-complete (canonical-spells r h)
+      go (some l) e g = asLine e (record-canon r l e h)
 
   -- two records of a kind with equal canonical lines are equal
   pub canonical-unique : (q r : Rec) → WellFormed c q → WellFormed c r → q .kind ≡ r .kind → canonicalRecord (c .rules) q ≡ canonicalRecord (c .rules) r → q ≡ r
   canonical-unique q r g h k e = record-unique k (rw e at (canonical-spells q g)) (canonical-spells r h)
-
-  -- and a line that spells a record has its canonical line beside it
-  pub canonical-same : (r : Rec) {s : List ℕ} → SpellsRecord c r s → SpellsRecord c r (canonicalRecord (c .rules) r)
-  canonical-same r p = canonical-spells r (record-fits p)

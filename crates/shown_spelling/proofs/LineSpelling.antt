@@ -4,7 +4,6 @@ use mathlib.Core.Path.{_≡_, refl, sym, ap, _∙_}
 use mathlib.Core.List.{List, [], _∷_}
 use mathlib.Core.Option.{Option, none, some}
 use mathlib.Core.Bool.{Bool, true, false, cond, false≢true}
-use native.Mathlib.Omega.{arith}
 use borrow.Author.Tests.{eqb-true, not-true}
 use lib.Dec.{eqb}
 use Rattle.basics.proofs.Bytes.{bytes-true, bytes-same}
@@ -218,12 +217,3 @@ module _ {c : Context} where
   line-first (withKeyword m r p a) = record { hash = first-byte 35 p refl refl; clean = a; keyed = rw (key-line m p a) }
   line-first (withProp {p = w} h r p a) = let e = prop-head w h in record { hash = first-byte 35 (rw (e .is) at p) (e .hash) refl; clean = a; keyed = rw (prop-line h p a) }
   line-first (asData {fs = fs} d h r p a) = record { hash = h; clean = a; keyed = rw (data-line fs d h p a) }
-
-  -- A line with the keyword of one record spells no record of another front
-  pub keyword-alone : {k : List ℕ} {f : Front} {ts us : List FieldType} {vs ws : List Value} {s : List ℕ} → SpellsLine c (keyword k) ts vs s → SpellsLine c f us ws s → f ≡ keyword k
-  keyword-alone {k} {f} p q = let r = line-looks q in go f (r .fs) (line-looks p .looks) (r .looks)
-    where
-      go : (f : Front) (gs : List Field) {l : Line} {fs : List Field} → l ≡ keyLine (46 ∷ k) fs → Looks f gs l → f ≡ keyword k
-      go (keyword j) gs e d = ap keyword (cc)
-      go prop gs e d = let z : _≡_ {A = ℕ} 0 1 = cc (e, d .2) in absurd (omega arith)
-      go plain gs e d = let z : _≡_ {A = ℕ} 0 1 = cc in absurd (omega arith)

@@ -82,10 +82,6 @@ module _ {c : Context} where
   field-sound (W l) (field true s) e = absurd (refused-good e)
   field-sound (W l) (field false s) e = word-field l s (placeOf (wordsOf (c .rules) l) s) refl e
 
-  -- So a field spells one value at most
-  pub field-unique : {t : FieldType} {f : Field} {v w : Value} → SpellsField c t v f → SpellsField c t w f → v ≡ w
-  field-unique p q = let e = field-complete p in let f = field-complete q in cc
-
   -- The fields of a record, from the left
   same-number : {ts : List FieldType} {vs : List Value} {fs : List Field} → SpellsFields c ts vs fs → length fs ≡ length ts
   same-number noFields = refl
@@ -115,6 +111,3 @@ module _ {c : Context} where
   pub values-sound : (ts : List FieldType) (fs : List Field) {vs : List Value} → readFields c ts fs ≡ good vs → SpellsFields c ts vs fs
   unfolding readFields
   values-sound ts fs e = each-sound ts fs (cond-good 6 (eqb (length fs) (length ts)) e .1)
-
-  pub values-unique : {ts : List FieldType} {vs us : List Value} {fs : List Field} → SpellsFields c ts vs fs → SpellsFields c ts us fs → vs ≡ us
-  values-unique p q = let e = values-complete p in let f = values-complete q in cc

@@ -6,7 +6,7 @@ use mathlib.Core.List.{List, [], _∷_}
 use mathlib.Core.Option.{Option, none, some}
 use mathlib.Core.Bool.{Bool, true, false, cond, not, _&&_, _||_, false≢true}
 use native.Mathlib.Omega.{arith}
-use borrow.Author.Tests.{eq-eqb, leb-true, le-leb, not-true}
+use borrow.Author.Tests.{leb-true, le-leb, not-true}
 use lib.Dec.{leb}
 use Rattle.basics.proofs.Bytes.{bytes-true, bytes-self}
 use Rattle.basics.proofs.Bools.{and-left, and-right, cond-cases, none-some, or-second}

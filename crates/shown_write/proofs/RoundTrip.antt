@@ -16,7 +16,7 @@ use Rattle.law.specs.Rows.{width, RowsMean, RowsSay}
 use Rattle.law.specs.Lists.{Permitted, Distinct}
 use Rattle.law.specs.Answers.{limit, reply}
 use Rattle.read.specs.Replies.{checkReply, rowsOf, readRows}
-use Rattle.write.specs.Outcomes.{sizedReply, writeReply, writeText}
+use Rattle.write.specs.Outcomes.{writeReply, writeText}
 use Rattle.law.specs.Files.{titled, FileSays}
 use Rattle.shown_read.proofs.WellFormedLists.{permitted-fit}
 use Rattle.shown_read.proofs.Mending.{Lines, no-line, and-line, canonicalLines, canonical-lines, canonical-spell}
@@ -25,7 +25,7 @@ use Rattle.shown_read.proofs.Checked.{check-rows, check-long, check-count}
 use Rattle.shown_read.proofs.ReadSays.{read-puts}
 use Rattle.law.specs.Canonical.{canonicalText}
 use Rattle.shown_write.proofs.WholeRows.{all-whole}
-use Rattle.shown_write.proofs.RowsWritten.{written-reply, write-says, write-puts}
+use Rattle.shown_write.proofs.RowsWritten.{write-says, write-puts}
 
 module _ (v : Rules) where
   -- the text is the file of the canonical lines
@@ -67,10 +67,6 @@ module _ (file : List ℕ) {rs : List Rec} (s : FileSays Idf3 rs file) where
   -- what `read` leaves in front of a slice with room for it are the file's rows
   pub read-front : length file ≤ limit → (old : List ℤ) → length rs ≤ length old / width → take (width * length rs) (readRows file old) ≡ rowsOf file
   read-front h old i = rw (read-puts file h s old i) (take-at (rowsOf file) (drop (length (rowsOf file)) old) (width * length rs) (check-long file s))
-
-  -- those rows are written as the canonical text of the list that the file says
-  pub write-read : (room : ℕ) → writeReply (rowsOf file) file room ≡ sizedReply (length (canonicalText Idf3 rs)) room
-  write-read room = written-reply (rowsOf file) file (file-rows file s) room
 
   pub write-read-text : length (canonicalText Idf3 rs) ≤ limit → (old : List ℕ) → length (canonicalText Idf3 rs) ≤ length old
       → (writeReply (rowsOf file) file (length old) ≡ reply 0 0 (length (canonicalText Idf3 rs)))

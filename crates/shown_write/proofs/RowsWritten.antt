@@ -44,14 +44,6 @@ sized-not-15 n room = go (ltb limit n) (ltb room n)
     go false true h = omega arith
     go false false h = omega arith
 
-sized-zero : (n room : ℕ) → sizedReply n room .number ≡ 0 → (n ≤ limit) × (n ≤ room)
-sized-zero n room = go (ltb limit n) (ltb room n) refl refl
-  where
-    go : (a b : Bool) → ltb limit n ≡ a → ltb room n ≡ b → sizedBy a b n .number ≡ 0 → (n ≤ limit) × (n ≤ room)
-    go true b x y h = absurd (omega arith)
-    go false true x y h = absurd (omega arith)
-    go false false x y h = (ltb-false limit n x, ltb-false room n y)
-
 sized-covers : (text old : List ℕ)
     → cond (eqb (sizedReply (length text) (length old) .number) 0) (sets old 0 text) old ≡ cond (eqb (sizedReply (length text) (length old) .number) 0) (before text old) old
 sized-covers text old = go (ltb limit (length text)) (ltb (length old) (length text)) refl
@@ -146,21 +138,3 @@ module _ (rows : List ℤ) (bytes : List ℕ) where
       pub write-puts : (old : List ℕ) → length (canonicalText Idf3 rs) ≤ length old
           → writeText rows bytes old ≡ canonicalText Idf3 rs ++ drop (length (canonicalText Idf3 rs)) old
       write-puts old i = written-text old ∙ rw (le-ltb limit (length (canonicalText Idf3 rs)) h, le-ltb (length old) (length (canonicalText Idf3 rs)) i)
-
-  -- 0 exactly where the rows mean a list that a file may say, whose text is within the limit and the room
-  pub write-accepts : (room : ℕ)
-      → (writeReply rows bytes room .number ≡ 0)
-      ↔ ((rs : List Rec) × RowsSay bytes rs rows × (length (canonicalText Idf3 rs) ≤ limit) × (length (canonicalText Idf3 rs) ≤ room))
-  unfolding writeReply
-  write-accepts room = (
-    λ e. go (writable Idf3 bytes (wholeRows rows)) refl e,
-    λ w. ap (λ (r : Reply). r .number) (write-says (w .1) (w .2) room (w .3)),
-  )
-    where
-      go : (b : Bool) → writable Idf3 bytes (wholeRows rows) ≡ b → cond b (sizedReply (length (textOf Idf3 bytes (wholeRows rows))) room) (reply 15 0 0) .number ≡ 0
-          → (rs : List Rec) × RowsSay bytes rs rows × (length (canonicalText Idf3 rs) ≤ limit) × (length (canonicalText Idf3 rs) ≤ room)
-      go true e z =
-          let s = writable-iff .0 e in
-          let b = sized-zero (length (canonicalText Idf3 (s .0))) room (rw (text-is (s .1 .means)) at z) in
-          (s .0, s .1, b .0, b .1)
-      go false e z = absurd (omega arith)

@@ -16,7 +16,7 @@ use Rattle.law.specs.Bytes.{isSpace, inBare, inQuotes, All}
 use Rattle.law.specs.Fields.{Field, field, Spells, Spelled, bare, quoted, end, space, last, next}
 use Rattle.text_fields.specs.FirstField.{span, endsWell, bareAt, closedAt, quotedAt, fieldAt, fieldOf}
 use Rattle.text_fields.specs.Fields.{before, fieldsBy, fieldsIn, fieldsOf, countOf}
-use Rattle.text_fields.specs.declared.CountAnswer.the-variants.{Fields, Bad}
+use Rattle.text_fields.specs.declared.CountAnswer.the-variants.{Fields}
 use Rattle.text_fields.specs.declared.FieldAnswer.{FieldAnswer}
 use Rattle.text_fields.specs.declared.FieldAnswer.the-variants.{Nothing, Got, Broken}
 use Rattle.text_fields.proofs.Bounds.{span-some, span-after}
@@ -316,6 +316,3 @@ fields-unique s fs gs p q = let e = fields-complete s fs p in let f = fields-com
 pub fields-counted : (s : List ℕ) (fs : List Field) → Spelled fs s → countOf s ≡ Fields (length fs)
 unfolding countOf
 fields-counted s fs r = rw (fields-complete s fs r)
-
-pub fields-bad : (s : List ℕ) → countOf s ≡ Bad → (fs : List Field) → Spelled fs s → ⊥
-fields-bad s e fs r = let c = fields-counted s fs r in let z : _≡_ {A = ℕ} 0 1 = cc in omega arith

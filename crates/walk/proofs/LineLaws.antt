@@ -4,22 +4,17 @@ use mathlib.Core.Path.{_≡_, sym, _∙_}
 use mathlib.Core.List.{List}
 use mathlib.Core.Bool.{Bool, true, false, not}
 use native.Mathlib.Omega.{arith}
-use mir.Syntax.{w64}
-use mir.Val.{SFits, toZ, ofZ}
 use borrow.Author.Tests.{eq-eqb, ne-eqb, not-true, not-false}
-use lib.IntN.{ℤ, pos}
+use lib.IntN.{ℤ}
 use lib.ListN.{length, take}
 use lib.Seq.{length-take-le}
-use Rattle.rows.specs.Columns.{columnAt, pointIn, typeInRow}
+use Rattle.rows.specs.Columns.{pointIn, typeInRow}
 use Rattle.rows.specs.declared.Point.{Point}
-use Rattle.basics.proofs.Integers.{same-as}
-use Rattle.basics.specs.Integers.{eqZ}
 use Rattle.law.specs.Kinds.{roleOf}
 use Rattle.law.specs.Layouts.{typesOf}
 use Rattle.law.specs.declared.Rules.{Rules}
 use Rattle.form.specs.declared.Keyword.{Keyword}
 use Rattle.law.specs.declared.FileType.{FileType}
-use Rattle.law.specs.declared.FileType.the-variants.{Board, Panel, Library}
 use Rattle.line_rows.specs.LineKinds.{kindOf}
 use Rattle.line_rows.specs.Rows.{filled}
 use Rattle.line_rows.specs.declared.LineKind.{LineKind}

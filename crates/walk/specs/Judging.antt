@@ -4,16 +4,12 @@ use mathlib.Core.List.{List}
 use mathlib.Core.Bool.{Bool, cond}
 use lib.Dec.{eqb}
 use lib.IntN.{ℤ, pos}
-use lib.ListN.{length, getD, replicate}
+use lib.ListN.{length, replicate}
 use Rattle.rows.specs.Columns.{pointIn, typeInRow}
-use Rattle.rows.specs.declared.Point.{Point}
-use Rattle.basics.specs.Integers.{eqZ}
 use Rattle.law.specs.Kinds.{prop, roleOf}
 use Rattle.law.specs.Layouts.{typesOf}
 use Rattle.law.specs.Fits.{under}
 use Rattle.law.specs.declared.Rules.{Rules}
-use Rattle.law.specs.declared.FileType.{FileType}
-use Rattle.law.specs.declared.FileType.the-variants.{Board, Panel, Library}
 use Rattle.line_rows.specs.LineKinds.{kindOf}
 use Rattle.law.specs.Rows.{width}
 use Rattle.line_rows.specs.Rows.{filled}

@@ -12,7 +12,7 @@ use borrow.Author.Tests.{not-true, not-false}
 use lib.IntN.{ℤ, pos, natAbs}
 use lib.ListN.{length, take, drop, set, getD, length-drop, length-set, drop-of-length-le}
 use lib.Seq.{take-suc, take-suc-set, take-all, getD-drop, drop-drop}
-use Rattle.rows.specs.Columns.{columnAt, typeInRow, pointIn, kindColumn}
+use Rattle.rows.specs.Columns.{typeInRow, pointIn, kindColumn}
 use Rattle.rows.specs.declared.Point.{Point}
 use Rattle.basics.proofs.Integers.{back}
 use Rattle.law.specs.Fits.{under}

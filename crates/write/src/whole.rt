@@ -8,7 +8,6 @@ use law::refusals;
 use order::LIMIT;
 ghost use mathlib.Core.Path.{_≡_};
 ghost use lib.ListN.{length};
-ghost use Rattle.law.specs.declared.Rules.the-variants.{Idf3};
 ghost use Rattle.law.specs.Answers.{reply};
 ghost use Rattle.write.specs.WholeRows.{wholeRows};
 ghost use Rattle.write.specs.Writable.{writable};

@@ -11,7 +11,7 @@ use mir.ValLaws.{toZ-ofZ}
 use borrow.Author.Tests.{not-true, not-false, lt-leb, le-leb, leb-true, ne-eqb}
 use lib.Dec.{leb, eqb}
 use lib.IntN.{ℤ, pos, natAbs}
-use lib.ListN.{length, take, drop, getD, drop-of-length-le, List·getD-eq-default}
+use lib.ListN.{length, take, drop, getD, drop-of-length-le}
 use lib.Seq.{drop-cons}
 use Rattle.rows.specs.Columns.{columnAt}
 use Rattle.basics.proofs.Bytes.{bytes-self}
@@ -19,13 +19,13 @@ use Rattle.basics.specs.Integers.{eqZ}
 use Rattle.basics.proofs.Integers.{back}
 use Rattle.basics.proofs.Lists.{all-more, all-stop, all-over}
 use Rattle.basics.proofs.Bools.{and-left, and-right}
-use Rattle.law.specs.Bytes.{allOf, permitted, ascii}
+use Rattle.law.specs.Bytes.{allOf, permitted}
 use Rattle.law.specs.Limits.{largestLength, largestInteger, below}
 use Rattle.law.specs.Dates.{isDate}
 use Rattle.law.specs.Values.{text}
-use Rattle.law.specs.Words.{wordsOf, sameBytes, wordAt}
+use Rattle.law.specs.Words.{wordsOf, wordAt}
 use Rattle.form_words.specs.Padded.{trimmed, wordRow}
-use Rattle.law.specs.Fits.{textByte, isBoard, barred, within, isEmpty, goodText, meaning, fits}
+use Rattle.law.specs.Fits.{textByte, barred, within, isEmpty, goodText, meaning, fits}
 use Rattle.law.specs.declared.Rules.{Rules}
 use Rattle.law.specs.declared.Context.{Context}
 use Rattle.law.specs.declared.Words.{Words}

@@ -1,9 +1,8 @@
 -- Laws of the fields of a row, one after the other, and of the row.
 use Prim.Native.Nat.{ℕ, _+_, _≤_, _<_}
 use mathlib.Core.Path.{_≡_, refl, sym, ap, _∙_}
-use mathlib.Core.List.{List, _∷_}
+use mathlib.Core.List.{List}
 use mathlib.Core.Bool.{Bool, true, false, not, _&&_}
-use native.Mathlib.Numerals.{add-one}
 use native.Mathlib.Omega.{arith}
 use mir.Syntax.{w64}
 use mir.Val.{Fits, SFits}
@@ -11,15 +10,13 @@ use mir.ValLaws.{toZ-ofZ}
 use borrow.Author.Tests.{not-true, not-false}
 use lib.IntN.{ℤ, natAbs}
 use lib.ListN.{length, drop, drop-of-length-le}
-use lib.Seq.{drop-cons}
-use Rattle.rows.specs.Columns.{columnAt, kindColumn}
+use Rattle.rows.specs.Columns.{kindColumn}
 use Rattle.basics.proofs.Integers.{back}
 use Rattle.law.specs.Limits.{below}
 use Rattle.law.specs.Layouts.{typesOf}
 use Rattle.form_layouts.specs.Letters.{widthOf, widths, typeAt, isKind}
 use Rattle.law.specs.declared.Context.{Context}
 use Rattle.law.specs.declared.FieldType.{FieldType}
-use Rattle.law.specs.declared.FieldType.the-variants.{Text as T}
 use Rattle.form_layouts.proofs.KindLaws.{nine, type-here, widths-here}
 use Rattle.law.specs.Rows.{width}
 use Rattle.write_columns.specs.Columns.{columnFits, allZero, fieldsFit, rowFits}

@@ -1,18 +1,18 @@
 -- The canonical line of a record, piece by piece: what stands before its fields, then each field with the byte behind it.
-use Prim.Native.Nat.{ℕ, suc, _+_, _<_}
+use Prim.Native.Nat.{ℕ, suc, _+_}
 use mathlib.Core.Path.{_≡_, refl, sym, ap, _∙_}
 use mathlib.Core.List.{List, [], _∷_, _++_, append-assoc}
 use mathlib.Core.Option.{Option, none, some}
 use mathlib.Core.Bool.{Bool, true, false, not, cond, _&&_, false≢true}
 use native.Mathlib.Omega.{arith}
-use borrow.Author.Tests.{lt-leb, leb-true, leb-false, ne-eqb}
+use borrow.Author.Tests.{ne-eqb}
 use lib.Dec.{leb}
 use lib.IntN.{ℤ}
 use lib.ListN.{length}
 use Rattle.rows.proofs.EachKind.{each-kind}
 use Rattle.rows.specs.Columns.{columnAt}
 use Rattle.basics.proofs.Bytes.{bytes-true}
-use Rattle.basics.proofs.Tables.{allBelow, below-all}
+use Rattle.basics.proofs.Tables.{allBelow}
 use Rattle.basics.proofs.Bools.{and-left, and-right, sameFlag, flag-eq}
 use Rattle.law.specs.Fields.{Field}
 use Rattle.law.specs.Sections.{sectionNames, sections}

@@ -3,14 +3,12 @@ use Prim.Native.Nat.{ℕ, _+_, _-_, _≤_, _<_}
 use mathlib.Core.Path.{_≡_, refl, sym, ap, _∙_}
 use mathlib.Core.List.{List, [], _∷_, _++_, append-assoc, append-nil}
 use mathlib.Core.Bool.{true, not, _&&_}
-use native.Mathlib.Numerals.{add-one}
 use native.Mathlib.Omega.{arith}
 use mir.Syntax.{w64}
 use mir.Val.{Fits, SFits}
 use mir.ValLaws.{toZ-ofZ}
 use lib.IntN.{ℤ, natAbs}
 use lib.ListN.{length, drop, length-append, length-drop, drop-of-length-le}
-use lib.Seq.{drop-cons}
 use Rattle.rows.specs.Columns.{columnAt, kindColumn}
 use Rattle.basics.proofs.Integers.{back}
 use Rattle.basics.proofs.Bools.{and-left, and-right}
@@ -22,7 +20,6 @@ use Rattle.law.specs.Layouts.{typesOf}
 use Rattle.form_layouts.specs.Letters.{widthOf, widths, typeAt, isKind}
 use Rattle.law.specs.declared.Rules.{Rules}
 use Rattle.law.specs.declared.FieldType.{FieldType}
-use Rattle.law.specs.declared.FieldType.the-variants.{Text as T}
 use Rattle.form_layouts.proofs.KindLaws.{nine, type-here, widths-here}
 use Rattle.law.specs.Rows.{width}
 use Rattle.order.specs.Automaton.{roleNumber}

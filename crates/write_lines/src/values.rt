@@ -11,7 +11,6 @@ ghost use lib.ListN.{length};
 ghost use Rattle.law.specs.Fields.{field};
 ghost use Rattle.law.specs.Limits.{largestLength};
 ghost use Rattle.number_print.specs.Printing.{Wrote};
-ghost use Rattle.law.specs.declared.FieldType.the-variants.{Text, Date, Number};
 ghost use Rattle.law.specs.Canonical.{needsQuotes, versionText, printedNumber, written};
 ghost use Rattle.rows_texts.specs.Texts.{textAt};
 ghost use Rattle.write_columns.specs.Columns.{liesIn, fieldFits};
