@@ -12,7 +12,8 @@ ghost use Rattle.same.specs.Verdicts.{refusedAs, foundSame, sameReply};
 // How many fields a record has at most.
 pub const FIELDS: usize = 7;
 
-// The fields that a comparison leaves out: of the records of a kind, each by its place from 0.
+// The fields that a comparison leaves out: of the records of a kind, each by its place from 0. Document 01 leaves out none; W-210
+// will.
 pub struct Ignored {
     pub kind: u64,
     pub fields: [bool; FIELDS],
