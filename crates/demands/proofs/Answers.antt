@@ -22,11 +22,11 @@ use Rattle.order.specs.declared.State.{State}
 use Rattle.law.specs.Answers.{limit, reply}
 use Rattle.read.specs.Replies.{checkReply, readReply, readRows, rowsOf}
 use Rattle.law.specs.declared.Reply.{Reply}
-use Rattle.shown_read.specs.Told.{Told, ended, broken, toldFrom}
+use Rattle.shown_told.specs.Told.{Told, ended, broken, toldFrom}
 use Rattle.law.specs.Files.{FileSays}
 use Rattle.shown_read.specs.Outcomes.{replyOf}
-use Rattle.shown_read.proofs.WholeFiles as whole
-use Rattle.shown_read.proofs.LineNumbers.{told-number}
+use Rattle.shown_told.proofs.WholeFiles as whole
+use Rattle.shown_told.proofs.LineNumbers.{told-number}
 use Rattle.shown_read.proofs.CheckTold.{check-told}
 use Rattle.shown_read.proofs.Checked.{check-accepts, check-count, check-large, check-long, check-rows}
 use Rattle.shown_read.proofs.ReadSays.{read-puts}

@@ -24,7 +24,7 @@ use Rattle.same.specs.SameLists.{sameFiles}
 use Rattle.same.specs.Verdicts.{foundSame, sameReply}
 use Rattle.same.proofs.VerdictLaws.{first-refused, second-refused}
 use Rattle.law.specs.Files.{FileSays}
-use Rattle.shown_read.proofs.WholeFiles as files
+use Rattle.shown_told.proofs.WholeFiles as files
 use Rattle.shown_read.proofs.Checked.{check-large, check-accepts, check-count, check-first, check-early}
 use Rattle.shown_read.proofs.RowsTold as told
 use Rattle.shown_read.proofs.ReadSays as reading

@@ -5,7 +5,7 @@ use mathlib.Core.List.{List, [], _∷_}
 use mathlib.Core.Bool.{Bool, true, false, cond}
 use lib.IntN.{ℤ}
 use Rattle.text.specs.Lines.{linesOf}
-use Rattle.shown_read.proofs.ToldSound.{told-typed}
+use Rattle.shown_told.proofs.ToldSound.{told-typed}
 use Rattle.read.specs.Replies.{typeFrom, typeOf}
 use Rattle.law.specs.Values.{Rec}
 use Rattle.law.specs.Layouts.{typesOf}
@@ -17,12 +17,12 @@ use Rattle.order.specs.declared.State.{State}
 use Rattle.walk.specs.declared.Walk.{Walk}
 use Rattle.walk.specs.Walks as walk
 use Rattle.walk.specs.Walks.{Trace, traceOf}
-use Rattle.shown_read.specs.Told.{says, wrong, Told, ended, broken, afterNothing, afterRecord, goOn, toldFrom}
+use Rattle.shown_told.specs.Told.{says, wrong, Told, ended, broken, afterNothing, afterRecord, goOn, toldFrom}
 use Rattle.law.specs.Files.{FileSays, titled}
 use Rattle.shown_read.proofs.LineUsed.{line-used}
 use Rattle.shown_read.proofs.Traced as follows
 use Rattle.shown_read.proofs.Traced.{Follows, trace-follows}
-use Rattle.shown_read.proofs.WholeFiles.{accepted-exactly}
+use Rattle.shown_told.proofs.WholeFiles.{accepted-exactly}
 
 -- a trace to the end of a file, each row of which holds the values of a record
 pub data Holding (file : List ℕ) : List Rec → Trace → Type 0 where

@@ -21,7 +21,7 @@ use Rattle.law.specs.Answers.{limit, reply}
 use Rattle.walk.specs.Walks.{Trace}
 use Rattle.read.specs.Replies.{endedBy, surveyed, checkReply}
 use Rattle.law.specs.declared.Reply.{Reply}
-use Rattle.shown_read.specs.Told.{says, wrong, Told, ended, broken, afterNothing, afterRecord, goOn, toldFrom}
+use Rattle.shown_told.specs.Told.{says, wrong, Told, ended, broken, afterNothing, afterRecord, goOn, toldFrom}
 use Rattle.shown_read.specs.Outcomes.{replyOf}
 use Rattle.shown_read.proofs.RowColumns.{nameAt, name-in, names-is}
 use Rattle.shown_read.proofs.LineUsed.{line-used}

@@ -44,10 +44,10 @@ use Rattle.shown_spelling.proofs.RecordSpelling.{record-fits}
 use Rattle.walk.specs.Judging.{refusedBy, freeBy, movedRow, filledBy, ofKind, dataBy, judgedBy, judged}
 use Rattle.walk.specs.declared.Found.the-variants.{Row, Nothing, Refused}
 use Rattle.walk.specs.declared.JudgedLine.{JudgedLine}
-use Rattle.shown_read.specs.Told.{Said, nothing, says, wrong, freeIn, saidOf, saidBy, saidAt, saidAs, lineSays}
-use Rattle.shown_read.proofs.Fronts.{stands-known}
-use Rattle.shown_read.proofs.LineSound.{Known, Behind, data-known, key-behind, record-spelled}
-use Rattle.shown_read.proofs.FieldTails.{From, from-start, from-behind, Listed, line-listed}
+use Rattle.shown_told.specs.Told.{Said, nothing, says, wrong, freeIn, saidOf, saidBy, saidAt, saidAs, lineSays}
+use Rattle.shown_told.proofs.Fronts.{stands-known}
+use Rattle.shown_told.proofs.LineSound.{Known, Behind, data-known, key-behind, record-spelled}
+use Rattle.shown_told.proofs.FieldTails.{From, from-start, from-behind, Listed, line-listed}
 use Rattle.shown_read.proofs.RowColumns.{point-in, type-in}
 
 -- a line that says nothing, one with a record, and one that is refused, as they are judged

@@ -18,7 +18,7 @@ use Rattle.order.specs.declared.State.{State}
 use Rattle.order.specs.declared.State.the-variants.{Between as between, Inside as inside}
 use Rattle.order.specs.declared.Outcome.{Outcome}
 use Rattle.order.specs.declared.Outcome.the-variants.{Next as next, Refused as stops}
-use Rattle.shown_read.specs.Told.{Said, nothing, says, wrong, freeIn, saidOf, saidBy, saidAt, ownFields, saidAs, lineSays}
+use Rattle.shown_told.specs.Told.{Said, nothing, says, wrong, freeIn, saidOf, saidBy, saidAt, ownFields, saidAs, lineSays}
 use Rattle.shown_read.proofs.LineJoined.{admit-fresh}
 
 -- what a line says, after components with these names

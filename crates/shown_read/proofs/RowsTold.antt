@@ -19,7 +19,7 @@ use Rattle.order.specs.Automaton.{start, repeats, noted}
 use Rattle.order.specs.declared.State.{State}
 use Rattle.walk.specs.Walks.{Trace}
 use Rattle.read.specs.Replies.{rowsIn, rowsOf}
-use Rattle.shown_read.specs.Told.{says, wrong, Told, ended, broken, afterNothing, afterRecord, goOn, toldFrom}
+use Rattle.shown_told.specs.Told.{says, wrong, Told, ended, broken, afterNothing, afterRecord, goOn, toldFrom}
 use Rattle.law.specs.Rows as rows
 use Rattle.shown_read.proofs.LineUsed.{line-used}
 use Rattle.shown_read.proofs.Traced.{Follows, done, stop, skip, row, trace-follows}

@@ -24,7 +24,7 @@ use Rattle.walk.specs.Walks.{begun, lineIn, turnOf, Trace, traceBy, traceAt, tr
 use Rattle.walk.specs.declared.JudgedLine.{JudgedLine}
 use Rattle.walk.specs.declared.Walk.{Walk}
 use Rattle.walk.proofs.WalkLaws.{trace-end, trace-step}
-use Rattle.shown_read.specs.Told.{Said, nothing, says, wrong, lineSays}
+use Rattle.shown_told.specs.Told.{Said, nothing, says, wrong, lineSays}
 use Rattle.shown_read.proofs.LineJoined.{Joined, line-joined}
 
 -- from a state, lines have a trace; the first of them has number k in the file

@@ -4,7 +4,7 @@ use mathlib.Core.Bool.{cond}
 use lib.ListN.{length}
 use Rattle.order.specs.Automaton.{accepting}
 use Rattle.law.specs.Answers.{reply}
-use Rattle.shown_read.specs.Told.{Told, ended, broken}
+use Rattle.shown_told.specs.Told.{Told, ended, broken}
 use Rattle.law.specs.declared.Reply.{Reply}
 
 -- n lines: as many rows as records; 13 where more lines are needed; or the first refused line, counted from 1, and its number

@@ -18,9 +18,9 @@ use Rattle.law.specs.Answers.{limit, reply}
 use Rattle.read.specs.Replies.{checkReply, rowsOf, readRows}
 use Rattle.write.specs.Outcomes.{writeReply, writeText}
 use Rattle.law.specs.Files.{titled, FileSays}
-use Rattle.shown_read.proofs.WellFormedLists.{permitted-fit}
-use Rattle.shown_read.proofs.Mending.{Lines, no-line, and-line, canonicalLines, canonical-lines, canonical-spell}
-use Rattle.shown_read.proofs.WholeFiles.{one-list}
+use Rattle.shown_told.proofs.WellFormedLists.{permitted-fit}
+use Rattle.shown_told.proofs.Mending.{Lines, no-line, and-line, canonicalLines, canonical-lines, canonical-spell}
+use Rattle.shown_told.proofs.WholeFiles.{one-list}
 use Rattle.shown_read.proofs.Checked.{check-rows, check-long, check-count}
 use Rattle.shown_read.proofs.ReadSays.{read-puts}
 use Rattle.law.specs.Canonical.{canonicalText}

@@ -23,10 +23,10 @@ use Rattle.shown_spelling.proofs.BareBytes.{all-map}
 use Rattle.shown_spelling.proofs.LineSpelling.{line-first}
 use Rattle.shown_spelling.proofs.CanonicalLines.{canonical-spells}
 use Rattle.law.specs.Files.{titled, Mendable}
-use Rattle.shown_read.proofs.WellFormedLists as every
-use Rattle.shown_read.proofs.WellFormedLists.{Every, every-rest, permitted-fit}
-use Rattle.shown_read.proofs.Readings.{Through}
-use Rattle.shown_read.proofs.ToldSound.{through-runs, through-spells}
+use Rattle.shown_told.proofs.WellFormedLists as every
+use Rattle.shown_told.proofs.WellFormedLists.{Every, every-rest, permitted-fit}
+use Rattle.shown_told.proofs.Readings.{Through}
+use Rattle.shown_told.proofs.ToldSound.{through-runs, through-spells}
 
 -- lines of which none holds byte 10: those of a file, and a file can be made of them
 pub data Lines : List (List ℕ) → Type 0 where

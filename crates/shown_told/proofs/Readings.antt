@@ -9,7 +9,7 @@ use Rattle.law.specs.declared.Rules.{Rules}
 use Rattle.law.specs.Records.{Named}
 use Rattle.order.specs.Automaton.{noted}
 use Rattle.order.specs.declared.State.{State}
-use Rattle.shown_read.specs.Told.{Said, nothing, says, wrong, lineSays, Told, ended, broken, afterNothing, afterRecord, goOn, toldFrom}
+use Rattle.shown_told.specs.Told.{Said, nothing, says, wrong, lineSays, Told, ended, broken, afterNothing, afterRecord, goOn, toldFrom}
 
 module _ (v : Rules) where
   -- from a state, lines say records and lead to another state

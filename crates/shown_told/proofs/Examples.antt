@@ -26,7 +26,7 @@ use Rattle.order.specs.Places.{dataKind, keyKind}
 use Rattle.order.specs.Automaton.{start, accepting, advance, mayStand}
 use Rattle.order.specs.declared.Stage.the-variants.{Headed}
 use Rattle.order.specs.declared.State.the-variants.{Between}
-use Rattle.shown_read.specs.Told.{saidAt, lineSays, Told, ended, broken, toldFrom}
+use Rattle.shown_told.specs.Told.{saidAt, lineSays, Told, ended, broken, toldFrom}
 
 abbrev told : List (List ℕ) → Told
 told ls = toldFrom Idf3 [] start ls

@@ -39,9 +39,9 @@ use Rattle.order.specs.declared.State.the-variants.{Between as between, Inside 
 use Rattle.order.specs.declared.Reason.the-variants.{Misplaced, Unfit, BadLoop, Repeated}
 use Rattle.order.specs.declared.Outcome.{Outcome}
 use Rattle.order.specs.declared.Outcome.the-variants.{Next as next, Refused as stops}
-use Rattle.shown_read.specs.Told.{Said, nothing, says, wrong, freeIn, saidOf, saidBy, saidAt, ownFields, saidAs, lineSays, broken, toldFrom}
-use Rattle.shown_read.proofs.Readings.{Breaks, here, pass, take-in, told-breaks}
-use Rattle.shown_read.proofs.FieldTails.{Listed, line-listed}
+use Rattle.shown_told.specs.Told.{Said, nothing, says, wrong, freeIn, saidOf, saidBy, saidAt, ownFields, saidAs, lineSays, broken, toldFrom}
+use Rattle.shown_told.proofs.Readings.{Breaks, here, pass, take-in, told-breaks}
+use Rattle.shown_told.proofs.FieldTails.{Listed, line-listed}
 
 -- Fields are refused by 6 to 10
 abbrev Low : {A : Type 0} → Reply A → Type 0

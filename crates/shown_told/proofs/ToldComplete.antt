@@ -19,12 +19,12 @@ use Rattle.order.specs.declared.Outcome.{Outcome}
 use Rattle.order.specs.declared.Outcome.the-variants.{Next as next, Refused as stops}
 use Rattle.shown_lists.proofs.FirstLine.{taken, later-through, through-same, accepted-exactly}
 use Rattle.law.specs.LineSpelling.{Where, outside, leadsTo, SpellsLines, end, free, line}
-use Rattle.shown_read.specs.Told.{nothing, lineSays, ended, toldFrom}
+use Rattle.shown_told.specs.Told.{nothing, lineSays, ended, toldFrom}
 use Rattle.law.specs.Files.{LinesSay}
-use Rattle.shown_read.proofs.LineComplete.{advanced, line-complete, nothing-complete}
-use Rattle.shown_read.proofs.Respelling.{spelled-again}
-use Rattle.shown_read.proofs.Readings.{Through, done, pass, take-in, through-told}
-use Rattle.shown_read.proofs.ToldSound.{whereOf, leads-where, told-sound}
+use Rattle.shown_told.proofs.LineComplete.{advanced, line-complete, nothing-complete}
+use Rattle.shown_told.proofs.Respelling.{spelled-again}
+use Rattle.shown_told.proofs.Readings.{Through, done, pass, take-in, through-told}
+use Rattle.shown_told.proofs.ToldSound.{whereOf, leads-where, told-sound}
 
 module _ (v : Rules) where
   free-says : (used : List Named) (st : State) {l : List ℕ} → whereOf st ≡ outside → Free l → lineSays v used st l ≡ nothing

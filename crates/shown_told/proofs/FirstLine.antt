@@ -13,11 +13,11 @@ use Rattle.law.specs.Values.{Rec}
 use Rattle.law.specs.declared.Rules.{Rules}
 use Rattle.order.specs.Automaton.{start, accepting}
 use Rattle.order.specs.declared.State.{State}
-use Rattle.shown_read.specs.Told.{Told, ended, broken, toldFrom}
+use Rattle.shown_told.specs.Told.{Told, ended, broken, toldFrom}
 use Rattle.law.specs.Files.{LinesSay, Mendable}
-use Rattle.shown_read.proofs.Readings.{Breaks, breaks-told, told-through, told-breaks, breaks-within, still-breaks, breaks-before, through-part}
-use Rattle.shown_read.proofs.ToldComplete.{told-complete}
-use Rattle.shown_read.proofs.Mending.{Lines, file-lines, lines-take, through-mendable}
+use Rattle.shown_told.proofs.Readings.{Breaks, breaks-told, told-through, told-breaks, breaks-within, still-breaks, breaks-before, through-part}
+use Rattle.shown_told.proofs.ToldComplete.{told-complete}
+use Rattle.shown_told.proofs.Mending.{Lines, file-lines, lines-take, through-mendable}
 
 ended-broken : {rs : List Rec} {en : State} {k n : ℕ} → ended rs en ≡ broken k n → ⊥
 ended-broken {rs} {en} {k} {n} e = let z : _≡_ {A = ℕ} 0 1 = cc in omega arith

@@ -49,9 +49,9 @@ use Rattle.law.specs.RecordSpelling.{asText, asReference, asDate, asInteger, as
 use Rattle.shown_spelling.proofs.ValueSpelling.{values-sound}
 use Rattle.shown_spelling.proofs.LineSpelling.{Looks, line-looks}
 use Rattle.shown_spelling.proofs.KeywordLaws.{IsSection, keyword-at, section-named}
-use Rattle.shown_read.specs.Told.{nothing, says, saidAt, ownFields, lineSays}
-use Rattle.shown_read.proofs.Fronts.{frontAt, isData, front-is, types-laid, stands-known, integerFirst, point-labelled}
-use Rattle.shown_read.proofs.FreeLines.{free-line}
+use Rattle.shown_told.specs.Told.{nothing, says, saidAt, ownFields, lineSays}
+use Rattle.shown_told.proofs.Fronts.{frontAt, isData, front-is, types-laid, stands-known, integerFirst, point-labelled}
+use Rattle.shown_told.proofs.FreeLines.{free-line}
 
 -- A record that moves a state may stand there and is well formed
 pub record Stood (v : Rules) (st : State) (r : Rec) : Type 0 where

@@ -11,10 +11,10 @@ use Rattle.law.specs.Values.{Rec}
 use Rattle.law.specs.declared.Rules.{Rules}
 use Rattle.order.specs.Automaton.{start, accepting}
 use Rattle.order.specs.declared.State.{State}
-use Rattle.shown_read.specs.Told.{ended, broken, toldFrom}
+use Rattle.shown_told.specs.Told.{ended, broken, toldFrom}
 use Rattle.law.specs.Files.{LinesSay, FileSays, Mendable}
-use Rattle.shown_read.proofs.ToldComplete.{lines-accepted, lines-one-list}
-use Rattle.shown_read.proofs.FirstLine.{lines-first, lines-too-early}
+use Rattle.shown_told.proofs.ToldComplete.{lines-accepted, lines-one-list}
+use Rattle.shown_told.proofs.FirstLine.{lines-first, lines-too-early}
 
 module _ (v : Rules) where
   -- what a file says, its lines say

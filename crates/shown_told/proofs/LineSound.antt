@@ -38,9 +38,9 @@ use Rattle.shown_lists.proofs.Tables.{section-at, role-at, laid}
 use Rattle.law.specs.RecordSpelling.{SpellsRecord}
 use Rattle.shown_spelling.proofs.KeywordLaws.{KeywordIs, keyword-is}
 use Rattle.shown_spelling.proofs.RecordSpelling.{record-sound}
-use Rattle.shown_read.specs.Told.{Said, nothing, says, wrong, freeIn, saidOf, saidBy, saidAt, ownFields, saidAs, lineSays}
-use Rattle.shown_read.proofs.Fronts.{frontAt, isData, front-is, types-laid, stands-known, zero-unknown, kind-section}
-use Rattle.shown_read.proofs.FreeLines.{line-free}
+use Rattle.shown_told.specs.Told.{Said, nothing, says, wrong, freeIn, saidOf, saidBy, saidAt, ownFields, saidAs, lineSays}
+use Rattle.shown_told.proofs.Fronts.{frontAt, isData, front-is, types-laid, stands-known, zero-unknown, kind-section}
+use Rattle.shown_told.proofs.FreeLines.{line-free}
 
 -- Data lines: the line that a place gives has a role of data, and that of a property only where b says that the line begins with PROP
 abbrev givenBy : Shape → Bool → ℕ → Bool

@@ -28,12 +28,12 @@ use Rattle.order.specs.declared.Outcome.the-variants.{Next as next, Refused as 
 use Rattle.shown_lists.proofs.Roles.{isRole-true}
 use Rattle.shown_lists.proofs.FirstLine.{taken, accepted-exactly, run-typed}
 use Rattle.law.specs.LineSpelling.{Where, outside, inside as within, leadsTo, SpellsLines, end, free, line}
-use Rattle.shown_read.specs.Told.{ended, toldFrom}
+use Rattle.shown_told.specs.Told.{ended, toldFrom}
 use Rattle.law.specs.Files.{titled, LinesSay}
-use Rattle.shown_read.proofs.LineSound.{line-sound, line-nothing}
-use Rattle.shown_read.proofs.Respelling.{spelled-again}
-use Rattle.shown_read.proofs.WellFormedLists.{Every, one, permitted-fit}
-use Rattle.shown_read.proofs.Readings.{Through, done, pass, take-in, told-through}
+use Rattle.shown_told.proofs.LineSound.{line-sound, line-nothing}
+use Rattle.shown_told.proofs.Respelling.{spelled-again}
+use Rattle.shown_told.proofs.WellFormedLists.{Every, one, permitted-fit}
+use Rattle.shown_told.proofs.Readings.{Through, done, pass, take-in, told-through}
 
 -- Where a state is, as the rules of lines say it
 abbrev pub whereOf : State → Where

@@ -1,0 +1,15 @@
+pub mod Fronts
+pub mod FreeLines
+pub mod LineSound
+pub mod LineComplete
+pub mod Respelling
+pub mod WellFormedLists
+pub mod Readings
+pub mod ToldSound
+pub mod ToldComplete
+pub mod Mending
+pub mod FirstLine
+pub mod WholeFiles
+pub mod FieldTails
+pub mod LineNumbers
+pub mod Examples
