@@ -2,7 +2,7 @@
 use Prim.Native.Nat.{ℕ, _+_, _*_, _/_, _≤_, _<_}
 use mathlib.Core.Path.{_≡_, refl, sym, ap, _∙_, subst}
 use mathlib.Core.Logic.{_↔_}
-use mathlib.Core.List.{List, _++_}
+use mathlib.Core.List.{List, _∷_, _++_}
 use mathlib.Core.Bool.{Bool, true, false}
 use native.Mathlib.Omega.{arith}
 use lib.IntN.{ℤ}
@@ -25,7 +25,8 @@ use Rattle.same.specs.Verdicts.{foundSame, sameReply}
 use Rattle.same.proofs.VerdictLaws.{first-refused, second-refused}
 use Rattle.law.specs.Files.{FileSays}
 use Rattle.shown_told.proofs.WholeFiles as files
-use Rattle.shown_read.proofs.Checked.{check-large, check-accepts, check-count, check-first, check-early}
+use Rattle.shown_told.proofs.Numbered as faults
+use Rattle.shown_read.proofs.Checked.{check-large, check-accepts, check-count, check-first, check-answers, check-only}
 use Rattle.shown_read.proofs.RowsTold as told
 use Rattle.shown_read.proofs.ReadSays as reading
 use Rattle.law.specs.Canonical.{canonicalText}
@@ -35,13 +36,15 @@ use Rattle.shown_same.proofs.Sameness as alike
 use Rattle.law.specs.Judging.{Judged}
 use Rattle.shown_judge.proofs.JudgedFiles as entries
 use Rattle.demands.specs.Outcomes.{Checks, Reads, Writes, Compares, Judges}
+use Rattle.law.specs.LineFaults.{FaultyAfter}
+use Rattle.law.specs.Given as given
 use Rattle.law.specs.Given.{Fails, Short, Answered, Written}
 use Rattle.demands.proofs.WriteAnswers.{write-answers, written-one, written-zero}
-use Rattle.demands.proofs.Answers.{check-answers, answered-one, answered-line, answered-early, read-list, front-means, behind-kept}
+use Rattle.demands.proofs.Answers.{answered-one, answered-line, answered-early, named-faulty, read-list, front-means, behind-kept}
 
 -- the parts of an answer
-abbrev numbered : Reply → ℕ
-numbered r = r .number
+abbrev numberIn : Reply → ℕ
+numberIn r = r .number
 
 counted : {v w : Verdict} → v ≡ w → v .count ≡ w .count
 counted e = ap (λ (u : Verdict). u .count) e
@@ -51,17 +54,17 @@ two a b = omega arith
 
 -- Demand 1
 
--- "Every file, however broken, gets a result or a refusal with a number and a line"
-pub every-file : {file : List ℕ} {r : Reply} → Checks file r → Answered file r
-every-file {file} c = subst (Answered file) (sym (c .answer)) (check-answers file)
+-- "Every file, however broken, gets a result or a refusal with a number and a line": the one that the rules give it, and no other
+pub every-file : {file : List ℕ} {r : Reply} → Checks file r ↔ Answered file r
+every-file {file} = (λ c. subst (Answered file) (sym (c .answer)) (check-answers file), λ a. record { answer = check-only file a })
 
 -- "A refusal writes nothing into what was lent": reading, writing
 pub untouched :
     ((file : List ℕ) (old new : List ℤ) (r : Reply) → Reads file old r new → (r .number ≡ 0 → ⊥) → new ≡ old)
     × ((rows : List ℤ) (bytes old new : List ℕ) (r : Reply) → Writes rows bytes old r new → (r .number ≡ 0 → ⊥) → new ≡ old)
 untouched = (
-  λ file old new r o h. o .left ∙ reading.untouched file old (λ z. h (ap numbered (o .answer) ∙ z)),
-  λ cs bytes old new r o h. o .left ∙ rows.untouched cs bytes old (λ z. h (ap numbered (o .answer) ∙ z)),
+  λ file old new r o h. o .left ∙ reading.untouched file old (λ z. h (ap numberIn (o .answer) ∙ z)),
+  λ cs bytes old new r o h. o .left ∙ rows.untouched cs bytes old (λ z. h (ap numberIn (o .answer) ∙ z)),
 )
 
 -- Demand 2
@@ -74,7 +77,7 @@ pub records : {file : List ℕ} {old new : List ℤ} {r : Reply} → Reads file 
     × RowsMean file rs (take (width * length rs) new)
     × (drop (width * length rs) new ≡ drop (width * length rs) old)
 records {file} {old} o z =
-    let w = read-list file (length old) (sym (ap numbered (o .answer)) ∙ z) in
+    let w = read-list file (length old) (sym (ap numberIn (o .answer)) ∙ z) in
     let h = w .0 in
     let s = w .1 .1 in
     let i = w .1 .2 in
@@ -149,7 +152,7 @@ accepted-iff {file} c h = rw (c .answer) (check-accepts file h)
 
 -- over the limit it is 1, and only there
 pub large-iff : {file : List ℕ} {r : Reply} → Checks file r → (r .number ≡ 1) ↔ (limit < length file)
-large-iff {file} c = (λ z. answered-one (every-file c) z, λ h. ap numbered (c .answer ∙ check-large file h))
+large-iff {file} c = (λ z. answered-one (every-file .0 c) z, λ h. ap numberIn (c .answer ∙ check-large file h))
 
 -- "There is only one such list"
 pub one-list : {file : List ℕ} {rs qs : List Rec} → FileSays Idf3 rs file → FileSays Idf3 qs file → rs ≡ qs
@@ -158,18 +161,34 @@ one-list a b = files.one-list Idf3 a b
 -- "A refusal on content names the first line after which, size aside, no further lines would make an accepted file"
 pub first-line : {file : List ℕ} {ls : List (List ℕ)} {r : Reply} → Checks file r → length file ≤ limit → File ls file → (k : ℕ)
     → ((3 ≤ r .number) × (r .number ≤ 12) × (r .line ≡ k + 1)) ↔ Fails ls k
-first-line {file} {ls} {r} c h m k = (λ w. answered-line m (every-file c) k (w .0) (w .1) (w .2), λ f. named (check-first file h k .1 (rw (lines-complete m) f)))
+first-line {file} {ls} {r} c h m k = (λ w. answered-line m (every-file .0 c) k (w .0) (w .1) (w .2), λ f. named (check-first file h k (rw (lines-complete m) f)))
   where
     named : (n : ℕ) × (3 ≤ n) × (n ≤ 12) × (checkReply file ≡ reply n (k + 1) 0) → (3 ≤ r .number) × (r .number ≤ 12) × (r .line ≡ k + 1)
     named (n, a, b, e) = rw (c .answer, e) (a, b, refl)
 
+-- "No. | given exactly when": of lines ls, then l, then more, the answer is n at the line l exactly where l is faulty by n after ls
+pub numbered : {file : List ℕ} {r : Reply} (ls more : List (List ℕ)) (l : List ℕ) → Checks file r → length file ≤ limit → File (ls ++ (l ∷ more)) file → (n : ℕ)
+    → (r ≡ reply n (length ls + 1) 0) ↔ FaultyAfter Idf3 ls l n
+numbered ls more l c h m n = (λ e. named-faulty h ls more l m n (sym (c .answer) ∙ e), λ f. c .answer ∙ sym (every-file .1 (given.refused ls l more h m f) .answer))
+
+-- no line has two numbers
+pub one-number : {ls : List (List ℕ)} {l : List ℕ} {m n : ℕ} → FaultyAfter Idf3 ls l m → FaultyAfter Idf3 ls l n → m ≡ n
+one-number a b = faults.one-number Idf3 a b
+
+-- the lines that have one are those that fail, and each is one of 3 to 12
+pub fails-iff : (ls more : List (List ℕ)) (l : List ℕ) {file : List ℕ} → File (ls ++ (l ∷ more)) file → Fails (ls ++ (l ∷ more)) (length ls) ↔ ((n : ℕ) × FaultyAfter Idf3 ls l n)
+fails-iff ls more l f = faults.fails-faulty Idf3 ls more l f
+
+pub line-numbers : {ls : List (List ℕ)} {l : List ℕ} {n : ℕ} → FaultyAfter Idf3 ls l n → (3 ≤ n) × (n ≤ 12)
+line-numbers f = faults.faulty-number Idf3 f
+
 -- "or says that the file ends too early"
 pub too-early : {file : List ℕ} {ls : List (List ℕ)} {r : Reply} → Checks file r → length file ≤ limit → File ls file
     → ((r .number ≡ 13) ↔ Short ls file) × (r .number ≡ 13 → r ≡ reply 13 (length ls + 1) 0)
-too-early {file} {ls} {r} c h m = ((λ z. answered-early m (every-file c) z .0, ends), λ z. answered-early m (every-file c) z .1)
+too-early {file} {ls} {r} c h m = ((λ z. answered-early m (every-file .0 c) z .0, ends), λ z. answered-early m (every-file .0 c) z .1)
   where
     ends : Short ls file → r .number ≡ 13
-    ends s = ap numbered (c .answer ∙ check-early file h .1 (rw (lines-complete m) s))
+    ends s = ap numberIn (c .answer ∙ sym (every-file .1 (given.too-early h m s) .answer))
 
 -- "Two accepted files are the same exactly when their lists are equal": 1 where they are, 0 where they are not, and neither is refused
 pub same-iff : {first second : List ℕ} {rs qs : List Rec} {v : Verdict} → Compares first second v → length first ≤ limit → length second ≤ limit
@@ -202,6 +221,6 @@ pub judge-refused : {board library : List ℕ} {c d : Reply} {v : Verdict} → J
     → ((c .number ≡ 0 → ⊥) → v ≡ verdict (c .number) (c .line) (c .count) 1)
     × (c .number ≡ 0 → (d .number ≡ 0 → ⊥) → v ≡ verdict (d .number) (d .line) (d .count) 2)
 judge-refused {board} {library} {c} {d} o a b = (
-  λ h. rw (a .answer) (o .answer ∙ entries.judged-first board library (λ z. h (ap numbered (a .answer) ∙ z))),
-  λ h i. rw (b .answer) (o .answer ∙ entries.judged-second board library (sym (ap numbered (a .answer)) ∙ h) (λ z. i (ap numbered (b .answer) ∙ z))),
+  λ h. rw (a .answer) (o .answer ∙ entries.judged-first board library (λ z. h (ap numberIn (a .answer) ∙ z))),
+  λ h i. rw (b .answer) (o .answer ∙ entries.judged-second board library (sym (ap numberIn (a .answer)) ∙ h) (λ z. i (ap numberIn (b .answer) ∙ z))),
 )

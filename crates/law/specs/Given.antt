@@ -1,6 +1,6 @@
 -- "No. | given exactly when": what each answer says of a file, or of rows and bytes, by the rules for producing files.
 use Prim.Native.Nat.{ℕ, _+_, _≤_, _<_}
-use mathlib.Core.List.{List, _++_}
+use mathlib.Core.List.{List, _∷_, _++_}
 use lib.IntN.{ℤ}
 use lib.ListN.{length, take, drop}
 use Rattle.law.specs.Lines.{File}
@@ -9,6 +9,7 @@ use Rattle.law.specs.declared.Rules.the-variants.{Idf3}
 use Rattle.law.specs.Answers.{limit, reply}
 use Rattle.law.specs.declared.Reply.{Reply}
 use Rattle.law.specs.Files.{FileSays, Mendable}
+use Rattle.law.specs.LineFaults.{FaultyAfter}
 use Rattle.law.specs.Canonical.{canonicalText}
 use Rattle.law.specs.Rows.{RowsSay}
 
@@ -20,11 +21,12 @@ Fails ls k = (k < length ls) × Mendable Idf3 (take k ls) × (Mendable Idf3 (tak
 abbrev pub Short : List (List ℕ) → List ℕ → Type 0
 Short ls file = Mendable Idf3 ls × ((rs : List Rec) → FileSays Idf3 rs file → ⊥)
 
--- a result, or a refusal with a number and a line; a line's number counts from 1
+-- a result, or a refusal with a number and a line: the first that is faulty, counted from 1
 pub data Answered (file : List ℕ) : Reply → Type 0 where
   accepted : {rs : List Rec} → length file ≤ limit → FileSays Idf3 rs file → Answered file (reply 0 0 (length rs))
   too-large : limit < length file → Answered file (reply 1 0 0)
-  refused : {ls : List (List ℕ)} {k n : ℕ} → length file ≤ limit → File ls file → 3 ≤ n → n ≤ 12 → Fails ls k → Answered file (reply n (k + 1) 0)
+  refused : (ls : List (List ℕ)) (l : List ℕ) (more : List (List ℕ)) {n : ℕ} → length file ≤ limit → File (ls ++ (l ∷ more)) file → FaultyAfter Idf3 ls l n
+      → Answered file (reply n (length ls + 1) 0)
   too-early : {ls : List (List ℕ)} → length file ≤ limit → File ls file → Short ls file → Answered file (reply 13 (length ls + 1) 0)
 
 -- what `write` answers and leaves in a slice that held `old`

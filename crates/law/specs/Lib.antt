@@ -3,6 +3,7 @@ pub mod Lines
 pub mod Fields
 pub mod Limits
 pub mod Numbers
+pub mod Magnitudes
 pub mod Integers
 pub mod Dates
 pub mod Words
@@ -18,6 +19,8 @@ pub mod RecordSpelling
 pub mod LineSpelling
 pub mod Lists
 pub mod Files
+pub mod FieldFaults
+pub mod LineFaults
 pub mod Rows
 pub mod Printing
 pub mod Canonical

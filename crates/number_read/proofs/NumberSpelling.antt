@@ -55,7 +55,7 @@ module _ (x : ℕ) where
   decimals-first (last g z) = digit-is g
   decimals-first (next g z r) = digit-is g
 
-  numeral-body : {n : ℕ} {l : List ℕ} → Numeral n l → (u : ℕ) (neg : Bool) (rest : List ℕ) → body x u neg (l ++ rest) ≡ whole x u neg n rest
+  pub numeral-body : {n : ℕ} {l : List ℕ} → Numeral n l → (u : ℕ) (neg : Bool) (rest : List ℕ) → body x u neg (l ++ rest) ≡ whole x u neg n rest
   unfolding body
   numeral-body r u neg rest = rw (numeral-first r rest) (numeral-complete r u neg rest)
 
@@ -73,7 +73,7 @@ module _ (x : ℕ) where
   unsigned-first (noPoint r) = rw append-nil at (numeral-first r [])
   unsigned-first (withPoint {m = m} r f) = numeral-first r (46 ∷ m)
 
-  read-digit : (k : ℕ) (l : List ℕ) → digitHere l ≡ true → readNumber k x l ≡ body x (10 ^ k) false l
+  pub read-digit : (k : ℕ) (l : List ℕ) → digitHere l ≡ true → readNumber k x l ≡ body x (10 ^ k) false l
   unfolding readNumber digitHere
   read-digit k [] h = absurd (false≢true h)
   read-digit k (b ∷ bs) h =

@@ -1,3 +1,4 @@
+pub mod FieldTails
 pub mod RowColumns
 pub mod LineJoined
 pub mod LineUsed

@@ -47,7 +47,7 @@ use Rattle.walk.specs.declared.JudgedLine.{JudgedLine}
 use Rattle.shown_told.specs.Told.{Said, nothing, says, wrong, freeIn, saidOf, saidBy, saidAt, saidAs, lineSays}
 use Rattle.shown_told.proofs.Fronts.{stands-known}
 use Rattle.shown_told.proofs.LineSound.{Known, Behind, data-known, key-behind, record-spelled}
-use Rattle.shown_told.proofs.FieldTails.{From, from-start, from-behind, Listed, line-listed}
+use Rattle.shown_read.proofs.FieldTails.{From, from-start, from-behind, Listed, line-listed}
 use Rattle.shown_read.proofs.RowColumns.{point-in, type-in}
 
 -- a line that says nothing, one with a record, and one that is refused, as they are judged

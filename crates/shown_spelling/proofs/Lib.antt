@@ -4,6 +4,8 @@ pub mod BareBytes
 pub mod Tables
 pub mod KeywordLaws
 pub mod ValueSpelling
+pub mod MagnitudeSpelling
+pub mod FieldNumbers
 pub mod LineSpelling
 pub mod RecordSpelling
 pub mod CanonicalFields

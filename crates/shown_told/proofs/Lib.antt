@@ -10,6 +10,12 @@ pub mod ToldComplete
 pub mod Mending
 pub mod FirstLine
 pub mod WholeFiles
-pub mod FieldTails
-pub mod LineNumbers
 pub mod Examples
+pub mod Apart
+pub mod Standing
+pub mod Looks
+pub mod KindOf
+pub mod Titles
+pub mod LineFaulty
+pub mod Numbered
+pub mod FaultExamples

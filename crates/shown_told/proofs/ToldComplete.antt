@@ -31,7 +31,7 @@ module _ (v : Rules) where
   free-says used (between g) e f = nothing-complete v used g f
   free-says used (inside g s p) e f = let z : _≡_ {A = ℕ} 0 1 = cc in absurd (omega arith)
 
-  spells-through : {u : FileType} {w : Where} {used : List Named} {st en : State} {rs : List Rec} {ls : List (List ℕ)} → SpellsLines (under v u) w rs ls
+  pub spells-through : {u : FileType} {w : Where} {used : List Named} {st en : State} {rs : List Rec} {ls : List (List ℕ)} → SpellsLines (under v u) w rs ls
       → whereOf st ≡ w → run v used st rs ≡ through en → Through v used st ls rs en
   spells-through {used = used} {st = st} end e h = subst (λ (x : State). Through v used st [] [] x) (through-same v h) done
   spells-through {used = used} {st = st} (free f m) e h = pass (free-says used st e f) (spells-through m e h)
