@@ -18,4 +18,3 @@ pub mod KindOf
 pub mod Titles
 pub mod LineFaulty
 pub mod Numbered
-pub mod FaultExamples
