@@ -26,7 +26,7 @@ use Rattle.order.specs.Places.{dataKind, keyKind}
 use Rattle.order.specs.Automaton.{start, accepting, advance, mayStand}
 use Rattle.order.specs.declared.Stage.the-variants.{Headed}
 use Rattle.order.specs.declared.State.the-variants.{Between}
-use Rattle.shown_told.specs.Told.{saidAt, lineSays, Told, ended, broken, toldFrom}
+use Rattle.shown_told.specs.Told.{saidAt, lineSays, Told, ended, toldFrom}
 
 abbrev told : List (List ℕ) → Told
 told ls = toldFrom Idf3 [] start ls
@@ -46,13 +46,3 @@ pub library :
     × (accepting (Between (Headed Library)) ≡ true)
 unfolding toldFrom lineSays saidAt lineAs begins allOf permitted fieldsOf fieldsIn fieldOf fieldAt bareAt endsWell span keywordOf keyFrom folded sameBytes wordAt placeOf wordsOf sections sectionNames kindAt sectionOf lineOf roleOf layoutOf typesOf keyKind dataKind mayStand mayOpen shapeOf advance wellFormed fitsAll fits goodText isEmpty meaning kept within readFields readEach readField readNumber body whole decimals toCount digitHere readInteger unsigned digits isDate fitsIn isTwo datePieces namesAComponent
 library = (refl, refl)
-
--- refused: data before the header, 5; a blank line inside it, 5; a keyword of no section, 5; an open quote, 4; too many fields, 6
-pub refusals :
-    (told (ascii "LIBRARY_FILE" ∷ []) ≡ broken 0 5)
-    × (told ([] ∷ ascii ".HEADER" ∷ [] ∷ []) ≡ broken 2 5)
-    × (told (ascii ".HEADERS" ∷ []) ≡ broken 0 5)
-    × (told (ascii ".HEADER" ∷ ascii "\"x" ∷ []) ≡ broken 1 4)
-    × (told (ascii ".HEADER MCAD" ∷ []) ≡ broken 0 6)
-unfolding toldFrom lineSays saidAt lineAs begins allOf permitted fieldsOf fieldsIn fieldOf fieldAt bareAt quotedAt closedAt endsWell span keywordOf keyFrom folded sameBytes sections sectionNames kindAt sectionOf lineOf roleOf layoutOf typesOf keyKind dataKind mayStand mayOpen advance wellFormed fitsAll readFields readEach namesAComponent
-refusals = (refl, refl, refl, refl, refl)
