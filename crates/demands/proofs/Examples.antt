@@ -42,7 +42,7 @@ use Rattle.walk.specs.Walks.{lineIn, turnOf, traceIn, traceAt}
 use Rattle.rows_texts.specs.Texts.{textIs, sameTexts}
 use Rattle.names.specs.Names.{usedIn, repeatIn}
 use Rattle.read.specs.Replies.{endedBy, surveyed, rowsIn, rowsOf, checkReply, readReply, examined, typeFrom}
-use Rattle.write_columns.specs.Columns.{liesIn, rangeFits, integerFits, numberFits, wordFits, allZero, fieldsFit, rowFits}
+use Rattle.write_columns.specs.Columns.{liesIn, rangeFits, integerFits, wordFits, allZero, fieldsFit, rowFits}
 use Rattle.write_columns.specs.Records.{valuesIn}
 use Rattle.write_lines.specs.LineText.{lineText}
 use Rattle.write.specs.WholeRows.{chunks, wholeRows}
@@ -141,7 +141,7 @@ pub written :
     × (writeReply (rowsOf library) library 60 ≡ reply 14 0 61)
     × (writeReply [] library 60 ≡ reply 15 0 0)
     × (writeText (rowsOf other-words) other-words (replicate 61 46) ≡ library)
-unfolding writeReply writeText textOf lineText canonicalRecord canonicalLine canonicalFields canonicalField canonical.written joined needsQuotes isEmpty printed signOf magnitudeOf numeralOf decimalsOf wordAt isKind wholeRows chunks writable carries rowStep twice namedIn namesIt sameNames sameTexts rowFits fieldsFit allZero rangeFits liesIn integerFits numberFits wordFits fits goodText valuesIn rowsIn traceAt traceIn turnOf lineIn judged ofKind dataBy filledBy kindOf filled fillFrom entryAt lineEnd contentLen endLen lineAs begins allOf permitted fieldsOf fieldsIn fieldOf fieldAt bareAt closedAt quotedAt endsWell span keywordOf keyFrom folded sameBytes placeOf wordsOf sections sectionNames kindAt sectionOf lineOf roleOf layoutOf typesOf keyKind dataKind mayStand mayOpen after moved stepped shapeOf manyLoops loopAfter eqZ meaning barred kept within beyond readField readNumber body whole decimals toCount digitHere readInteger unsigned digits isDate fitsIn isTwo datePieces
+unfolding writeReply writeText textOf lineText canonicalRecord canonicalLine canonicalFields canonicalField canonical.written joined needsQuotes isEmpty printed signOf magnitudeOf numeralOf decimalsOf wordAt isKind wholeRows chunks writable carries rowStep twice namedIn namesIt sameNames sameTexts rowFits fieldsFit allZero rangeFits liesIn integerFits wordFits fits goodText valuesIn rowsIn traceAt traceIn turnOf lineIn judged ofKind dataBy filledBy kindOf filled fillFrom entryAt lineEnd contentLen endLen lineAs begins allOf permitted fieldsOf fieldsIn fieldOf fieldAt bareAt closedAt quotedAt endsWell span keywordOf keyFrom folded sameBytes placeOf wordsOf sections sectionNames kindAt sectionOf lineOf roleOf layoutOf typesOf keyKind dataKind mayStand mayOpen after moved stepped shapeOf manyLoops loopAfter eqZ meaning barred kept within beyond readField readNumber body whole decimals toCount digitHere readInteger unsigned digits isDate fitsIn isTwo datePieces
 written = (refl, refl, refl, refl)
 
 -- so they meet the premises

@@ -8,7 +8,6 @@ use lib.ListN.{length}
 use Rattle.law.specs.Bytes.{permitted, allOf, begins}
 use Rattle.law.specs.Fields.{Field, field}
 use Rattle.text_fields.specs.Fields.{fieldsOf}
-use Rattle.law.specs.Limits.{largestLength}
 use Rattle.number.specs.Numbers.{readNumber}
 use Rattle.number.specs.Integers.{readInteger}
 use Rattle.law.specs.Dates.{isDate}
@@ -22,7 +21,7 @@ use Rattle.law.specs.Words.{wordsOf, propWord, endWord, sameBytes}
 use Rattle.law.specs.Sections.{sectionNames}
 use Rattle.form.specs.Compare.{placeOf, folded}
 use Rattle.law.specs.Layouts.{Front, keyword, prop, plain}
-use Rattle.law.specs.Fits.{kept, within, meaning, barred}
+use Rattle.law.specs.Fits.{kept, largest, within, meaning, barred}
 use Rattle.form.specs.Fits.{beyond}
 use Rattle.law.specs.declared.Context.{Context}
 use Rattle.law.specs.declared.Limit.{Limit}
@@ -54,7 +53,7 @@ readField c D (field false s) = cond (isDate s) (good (text s)) (refused 9)
 readField c I (field true s) = refused 7
 readField c I (field false s) = ofInteger (readInteger s)
 readField c (N l) (field true s) = refused 7
-readField c (N l) (field false s) = ofCount c l (readNumber (kept c l) largestLength s)
+readField c (N l) (field false s) = ofCount c l (readNumber (kept c l) (largest l) s)
 readField c (W l) (field true s) = refused 9
 readField c (W l) (field false s) = ofPlace (placeOf (wordsOf (c .rules) l) s)
 

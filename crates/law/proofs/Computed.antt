@@ -111,11 +111,13 @@ pub limits :
     × bad (of 142 (count 0 ∷ count 0 ∷ count 0 ∷ number (negsuc 35_999_999) ∷ []))
     × good (of 142 (count 0 ∷ count 0 ∷ count 0 ∷ number (negsuc 35_999_998) ∷ []))
     × bad (of 121 (count 100_000_000_000 ∷ count 0 ∷ count 0 ∷ count 0 ∷ said "t" ∷ []))
+    × good (of 132 (count 0 ∷ count 0 ∷ count 0 ∷ number (negsuc 99_999_999_998) ∷ word 0 ∷ word 3 ∷ []))
+    × bad (of 132 (count 0 ∷ count 0 ∷ count 0 ∷ number (negsuc 99_999_999_999) ∷ word 0 ∷ word 3 ∷ []))
     × bad (of 11 (word 0 ∷ count 200_000 ∷ said "s" ∷ said "2024/05/06.07:08:09" ∷ count 1 ∷ []))
     × bad (part "g" "p" "BOARD")
     × (wellFormed (under Idf3 Panel) (part "g" "p" "BOARD") ≡ true)
 unfolding wellFormed fitsAll fits within goodText meaning barred allOf permitted sameBytes isEmpty wordAt wordsOf isDate fitsIn isTwo datePieces layoutOf sectionOf lineOf roleOf sections sectionNames
-limits = (refl, refl, refl, refl, refl, refl, refl, refl, refl, refl, refl, refl, refl, refl, refl, refl, refl, refl, refl)
+limits = (refl, refl, refl, refl, refl, refl, refl, refl, refl, refl, refl, refl, refl, refl, refl, refl, refl, refl, refl, refl, refl)
 
 -- between outline and PLACEMENT
 pub middle : (isMiddle Idf3 3 ≡ false) × (isMiddle Idf3 4 ≡ true) × (isMiddle Idf3 12 ≡ true) × (isMiddle Idf3 13 ≡ false)

@@ -1,3 +1,4 @@
 pub mod Samples
 pub mod Computed
 pub mod Derived
+pub mod LargestLaws

@@ -6,10 +6,9 @@ use mathlib.Core.List.{List, _∷_}
 use mathlib.Core.Bool.{true, false}
 use lib.IntN.{ℤ}
 use Rattle.law.specs.Fields.{Field, field}
-use Rattle.law.specs.Limits.{largestLength}
 use Rattle.law.specs.Numbers.{SpellsNumber}
 use Rattle.law.specs.Values.{Value}
-use Rattle.law.specs.Fits.{kept, within}
+use Rattle.law.specs.Fits.{kept, largest, within}
 use Rattle.law.specs.declared.Context.{Context}
 use Rattle.law.specs.declared.Limit.{Limit}
 use Rattle.law.specs.declared.Limit.the-variants.{Version as Ver}
@@ -27,10 +26,10 @@ Spellless c t f = (x : Value) → SpellsField c t x f → ⊥
 pub data FaultyField (c : Context) : FieldType → Field → ℕ → Type 0 where
   no-integer : {f : Field} → Spellless c I f → FaultyField c I f 7
   quoted-number : {l : Limit} {s : List ℕ} → FaultyField c (N l) (field true s) 7
-  no-number : {l : Limit} {s : List ℕ} → (InMagnitude (kept c l) largestLength s → ⊥) → FaultyField c (N l) (field false s) 7
-  too-fine : {l : Limit} {s : List ℕ} → InMagnitude (kept c l) largestLength s → ((z : ℤ) → SpellsNumber (kept c l) largestLength z s → ⊥) → FaultyField c (N l) (field false s) 8
-  other-version : {s : List ℕ} {z : ℤ} → SpellsNumber (kept c Ver) largestLength z s → within c Ver z ≡ false → FaultyField c (N Ver) (field false s) 9
-  beyond-limit : {l : Limit} {s : List ℕ} {z : ℤ} → l ≢ Ver → SpellsNumber (kept c l) largestLength z s → within c l z ≡ false → FaultyField c (N l) (field false s) 10
+  no-number : {l : Limit} {s : List ℕ} → (InMagnitude (kept c l) (largest l) s → ⊥) → FaultyField c (N l) (field false s) 7
+  too-fine : {l : Limit} {s : List ℕ} → InMagnitude (kept c l) (largest l) s → ((z : ℤ) → SpellsNumber (kept c l) (largest l) z s → ⊥) → FaultyField c (N l) (field false s) 8
+  other-version : {s : List ℕ} {z : ℤ} → SpellsNumber (kept c Ver) (largest Ver) z s → within c Ver z ≡ false → FaultyField c (N Ver) (field false s) 9
+  beyond-limit : {l : Limit} {s : List ℕ} {z : ℤ} → l ≢ Ver → SpellsNumber (kept c l) (largest l) z s → within c l z ≡ false → FaultyField c (N l) (field false s) 10
   no-word : {l : Words} {f : Field} → Spellless c (W l) f → FaultyField c (W l) f 9
   no-date : {f : Field} → Spellless c D f → FaultyField c D f 9
   barred-board : {f : Field} → Spellless c Ref f → FaultyField c Ref f 9

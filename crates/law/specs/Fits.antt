@@ -8,7 +8,7 @@ use mathlib.Core.Bool.{Bool, true, false, not, _&&_}
 use lib.Dec.{leb, ltb, eqb}
 use lib.IntN.{ℤ, pos, negsuc, natAbs}
 use Rattle.law.specs.Bytes.{permitted, allOf}
-use Rattle.law.specs.Limits.{mostDecimals, largestLength, largestInteger, inTurn, below}
+use Rattle.law.specs.Limits.{mostDecimals, largestLength, largestAngle, largestInteger, inTurn, below}
 use Rattle.law.specs.Dates.{isDate}
 use Rattle.law.specs.Values.{Value, number, word, text, Rec}
 use Rattle.law.specs.Words.{wordsOf, boardWord, sameBytes, wordAt}
@@ -44,6 +44,15 @@ isVersion v (negsuc n) = false
 -- how many decimals of a number are kept; the arguments are for W-202, where a length may be whole
 unfoldable pub kept : Context → Limit → ℕ
 kept c l = mostDecimals
+
+-- the largest magnitude of a number's count: that of a length, or of an angle
+abbrev pub largest : Limit → ℕ
+largest L = largestLength
+largest L0 = largestLength
+largest Lp = largestLength
+largest A = largestAngle
+largest R = largestAngle
+largest Ver = largestLength
 
 -- within the limit of its field
 unfoldable pub within : Context → Limit → ℤ → Bool
@@ -100,7 +109,7 @@ fits c D (word n) = false
 fits c I (number z) = leb (natAbs z) largestInteger
 fits c I (text s) = false
 fits c I (word n) = false
-fits c (N l) (number z) = leb (natAbs z) largestLength && within c l z
+fits c (N l) (number z) = leb (natAbs z) (largest l) && within c l z
 fits c (N l) (text s) = false
 fits c (N l) (word n) = false
 fits c (W l) (word n) = goodWord (c .rules) l n

@@ -8,14 +8,13 @@ use mathlib.Core.Bool.{Bool, true, false, not}
 use lib.IntN.{ℤ}
 use Rattle.law.specs.Bytes.{permitted, begins, All}
 use Rattle.law.specs.Fields.{Field, field, Spelled}
-use Rattle.law.specs.Limits.{largestLength}
 use Rattle.law.specs.Numbers.{SpellsNumber}
 use Rattle.law.specs.Integers.{SpellsInteger}
 use Rattle.law.specs.Dates.{isDate}
 use Rattle.law.specs.Values.{Value, number, word, text, Rec}
 use Rattle.law.specs.Words.{wordsOf, propWord, sameBytes}
 use Rattle.law.specs.Layouts.{Front, keyword, prop, plain, Layout, layoutOf}
-use Rattle.law.specs.Fits.{kept, within, meaning, barred}
+use Rattle.law.specs.Fits.{kept, largest, within, meaning, barred}
 use Rattle.law.specs.WordSpelling.{Listed, AnyCase}
 use Rattle.law.specs.declared.Context.{Context}
 use Rattle.law.specs.declared.Limit.{Limit}
@@ -29,7 +28,7 @@ pub data SpellsField (c : Context) : FieldType → Value → Field → Type 0 wh
   asReference : {q : Bool} {s : List ℕ} → barred c (meaning Ref s) ≡ false → SpellsField c Ref (text (meaning Ref s)) (field q s)
   asDate : {s : List ℕ} → isDate s ≡ true → SpellsField c D (text s) (field false s)
   asInteger : {z : ℤ} {s : List ℕ} → SpellsInteger z s → SpellsField c I (number z) (field false s)
-  asNumber : {l : Limit} {z : ℤ} {s : List ℕ} → SpellsNumber (kept c l) largestLength z s → within c l z ≡ true → SpellsField c (N l) (number z) (field false s)
+  asNumber : {l : Limit} {z : ℤ} {s : List ℕ} → SpellsNumber (kept c l) (largest l) z s → within c l z ≡ true → SpellsField c (N l) (number z) (field false s)
   asWord : {l : Words} {n : ℕ} {s : List ℕ} → Listed (wordsOf (c .rules) l) n s → SpellsField c (W l) (word n) (field false s)
 
 -- one field and one value for each type

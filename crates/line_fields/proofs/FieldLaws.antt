@@ -1,35 +1,35 @@
 -- Laws by which the code of a field follows its definition.
-use Prim.Native.Nat.{ℕ, _≤_}
+use Prim.Native.Nat.{ℕ, suc, _≤_}
 use mathlib.Core.Path.{_≡_, refl, sym, ap, _∙_}
 use mathlib.Core.List.{List, []}
 use mathlib.Core.Option.{Option, none, some}
-use mathlib.Core.Bool.{Bool, true, false, cond, not, _&&_}
+use mathlib.Core.Bool.{Bool, true, false, cond, not, _&&_, and-true}
 use native.Mathlib.Omega.{arith}
-use lib.Dec.{ltb, eqb}
+use borrow.Author.Tests.{le-leb, leb-true, ltb-true, eqb-true}
+use lib.Dec.{leb, ltb, eqb}
 use lib.IntN.{ℤ, pos, negsuc, natAbs}
 use mir.Syntax.{w64}
 use mir.Val.{SFits}
 use mir.ValLaws.{toZ-ofZ}
+use Rattle.basics.proofs.Bools.{and-none}
 use Rattle.basics.proofs.Integers.{back}
 use Rattle.law.specs.Fields.{field}
-use Rattle.law.specs.Limits.{below, mostDecimals, largestLength, inTurn}
-use Rattle.number.specs.Limits.{includedOf}
+use Rattle.law.specs.Limits.{below, mostDecimals, largestLength, largestAngle, fullTurn, inTurn}
 use Rattle.number.specs.Numbers.{readNumber}
 use Rattle.number.specs.Integers.{readInteger}
 use Rattle.law.specs.Dates.{isDate}
 use Rattle.number.specs.declared.Integer.{Integer}
-use Rattle.number.specs.declared.Angle.{Angle}
-use Rattle.number.specs.declared.AngleAnswer.{AngleAnswer}
-use Rattle.number.specs.declared.AngleAnswer.the-variants.{Made, Beyond}
 use Rattle.number.specs.declared.NumberAnswer.{NumberAnswer}
 use Rattle.number.specs.declared.NumberAnswer.the-variants.{Count, NotNumber, TooFine}
 use Rattle.number.specs.declared.WholeAnswer.{WholeAnswer}
 use Rattle.number.specs.declared.WholeAnswer.the-variants.{Whole, NotInteger}
-use Rattle.law.specs.Values.{text}
+use Rattle.law.specs.Values.{number, text}
 use Rattle.form.specs.Values.{good, refused}
 use Rattle.law.specs.Words.{wordsOf, boardWord, sameBytes}
 use Rattle.form.specs.Compare.{placeOf}
-use Rattle.law.specs.Fits.{above, versionOf, isVersion, kept, within, meaning, isBoard, barred}
+use Rattle.law.specs.Fits.{above, versionOf, isVersion, kept, largest, within, meaning, isBoard, barred, fits}
+use Rattle.law.proofs.LargestLaws.{largest-most}
+use Rattle.number_read.proofs.NumberSpelling.{number-sound, number-small}
 use Rattle.form.specs.Fits.{beyond}
 use Rattle.form.specs.Reading.{ofPlace, readField}
 use Rattle.form_words.specs.Padded.{found}
@@ -73,61 +73,56 @@ module _ (z : ℤ) (f : SFits w64 z) (t : Bool) (e : t ≡ below (back z)) where
         go (pos n) = refl
         go (negsuc n) = refl
 
-  pub within-zero : (c : Context) (l : Limit) → l ≡ L0 → not t ≡ within c l z
-  unfolding within
-  within-zero c l h = rw (h, sign)
+  module _ (c : Context) (l : Limit) (m : Bool) (k : m ≡ leb (natAbs (back z)) largestLength) where
+    pub within-zero : l ≡ L0 → m && not t ≡ fits c (N l) (number z)
+    unfolding fits within
+    within-zero h = rw (h, sign, k, toZ-ofZ w64 z f)
 
-module _ (z : ℤ) (f : SFits w64 z) (a : AngleAnswer) (e : a ≡ includedOf (back z)) where
-  turned : AngleAnswer → Bool
-  turned (Made x) = true
-  turned Beyond = false
+-- a small magnitude is one of a length, and of an angle
+implied : (a b : Bool) → (b ≡ true → a ≡ true) → (a && b) ≡ b
+implied a true h = rw (h refl)
+implied a false h = and-none a false refl
 
-  told-turn : turned a ≡ inTurn z
-  unfolding turned
-  told-turn = ap turned (rw (toZ-ofZ w64 z f) at e) ∙ go (inTurn z)
-    where
-      go : (t : Bool) → turned (cond t (Made (record { 0 = z })) Beyond) ≡ t
-      go true = refl
-      go false = refl
+turn-small : (z : ℤ) → (leb (natAbs z) largestAngle && inTurn z) ≡ inTurn z
+turn-small (pos n) = implied (leb n largestAngle) (leb n fullTurn) (λ h. le-leb n largestAngle (omega (arith, leb-true n fullTurn h)))
+turn-small (negsuc n) = implied (leb (suc n) largestAngle) (ltb (suc n) fullTurn) (λ h. le-leb (suc n) largestAngle (omega (arith, ltb-true (suc n) fullTurn h)))
 
-  pub turn-made : (x : Angle) → a ≡ Made x → true ≡ inTurn z
-  unfolding turned
-  turn-made x h = sym (ap turned h) ∙ told-turn
+version-small : (v : Rules) (z : ℤ) → (leb (natAbs z) largestLength && isVersion v z) ≡ isVersion v z
+version-small v (pos n) = implied (leb n largestLength) (eqb n (versionOf v)) (λ h. le-leb n largestLength (omega (arith, eqb-true n (versionOf v) h, version-is v)))
+version-small v (negsuc n) = and-none (leb (suc n) largestLength) false refl
 
-  pub turn-beyond : a ≡ Beyond → false ≡ inTurn z
-  unfolding turned
-  turn-beyond h = sym (ap turned h) ∙ told-turn
+module _ (c : Context) (l : Limit) (z : ℤ) (f : SFits w64 z) (r : Bool) where
+  pub within-length : l ≡ L → r ≡ leb (natAbs (back z)) largestLength → r ≡ fits c (N l) (number z)
+  unfolding fits within
+  within-length h e = rw h ((rw (toZ-ofZ w64 z f) at e) ∙ sym (and-true (leb (natAbs z) largestLength)))
 
-module _ (c : Context) (l : Limit) (z : ℤ) where
-  pub within-length : l ≡ L → true ≡ within c l z
-  unfolding within
-  within-length h = rw h
+  pub within-rotation : l ≡ R → r ≡ leb (natAbs (back z)) largestAngle → r ≡ fits c (N l) (number z)
+  unfolding fits within
+  within-rotation h e = rw h ((rw (toZ-ofZ w64 z f) at e) ∙ sym (and-true (leb (natAbs z) largestAngle)))
 
-  pub within-rotation : l ≡ R → true ≡ within c l z
-  unfolding within
-  within-rotation h = rw h
+  pub within-above : (m : Bool) → l ≡ Lp → m ≡ leb (natAbs (back z)) largestLength → r ≡ above (back z) → m && r ≡ fits c (N l) (number z)
+  unfolding fits within
+  within-above m h k e = rw (h, k, e, toZ-ofZ w64 z f)
 
-  module _ (f : SFits w64 z) (r : Bool) where
-    pub within-above : l ≡ Lp → r ≡ above (back z) → r ≡ within c l z
-    unfolding within
-    within-above h e = rw h (rw (toZ-ofZ w64 z f) at e)
+  pub within-turn : l ≡ A → r ≡ inTurn (back z) → r ≡ fits c (N l) (number z)
+  unfolding fits within
+  within-turn h e = rw h ((rw (toZ-ofZ w64 z f) at e) ∙ sym (turn-small z))
 
-    pub within-turn : l ≡ A → r ≡ inTurn (back z) → r ≡ within c l z
-    unfolding within
-    within-turn h e = rw h (rw (toZ-ofZ w64 z f) at e)
-
-    pub within-version : l ≡ Ver → r ≡ isVersion (c .rules) (back z) → r ≡ within c l z
-    unfolding within
-    within-version h e = rw h (rw (toZ-ofZ w64 z f) at e)
+  pub within-version : l ≡ Ver → r ≡ isVersion (c .rules) (back z) → r ≡ fits c (N l) (number z)
+  unfolding fits within
+  within-version h e = rw h ((rw (toZ-ofZ w64 z f) at e) ∙ sym (version-small (c .rules) z))
 
 -- Answers of the parts
 pub kept-is : (c : Context) (l : Limit) → 5 ≡ kept c l
 unfolding kept
 kept-is c l = refl
 
-module _ (c : Context) (l : Limit) (s : List ℕ) (a : NumberAnswer) (n : ℕ) (k : n ≡ kept c l) (e : a ≡ readNumber n largestLength s) where
-  here : a ≡ readNumber (kept c l) largestLength s
-  here = rw k at e
+pub largest-fits : (l : Limit) (x : ℕ) → x ≡ largest l → x ≤ largestLength
+largest-fits l x e = rw e (largest-most l)
+
+module _ (c : Context) (l : Limit) (s : List ℕ) (a : NumberAnswer) (n x : ℕ) (k : n ≡ kept c l) (q : x ≡ largest l) (e : a ≡ readNumber n x s) where
+  here : a ≡ readNumber (kept c l) (largest l) s
+  here = rw (k, q) at e
 
   pub count-not : a ≡ NotNumber → Refused 7 ≡ toldCount c l s
   count-not h = rw (sym here ∙ h)
@@ -135,12 +130,17 @@ module _ (c : Context) (l : Limit) (s : List ℕ) (a : NumberAnswer) (n : ℕ) (
   pub count-fine : a ≡ TooFine → Refused 8 ≡ toldCount c l s
   count-fine h = rw (sym here ∙ h)
 
-  module _ (z : ℤ) (h : a ≡ Count z) (f : SFits w64 z) (r : Bool) (w : r ≡ within c l (back z)) where
-    pub count-good : r ≡ true → Number (back z) ≡ toldCount c l s
-    count-good t = rw (sym here ∙ h, sym (rw (toZ-ofZ w64 z f) at w) ∙ t, toZ-ofZ w64 z f)
+  module _ (z : ℤ) (h : a ≡ Count z) (f : SFits w64 z) (r : Bool) (w : r ≡ fits c (N l) (number (back z))) where
+    -- what was read is not beyond its kind
+    limited : r ≡ within c l z
+    unfolding fits
+    limited = (rw (toZ-ofZ w64 z f) at w) ∙ rw (le-leb (natAbs z) (largest l) (number-small (number-sound (kept c l) (largest l) s (sym here ∙ h))))
 
-    pub count-beyond : (x : ℕ) → r ≡ false → x ≡ beyond l → Refused x ≡ toldCount c l s
-    count-beyond x t b = rw (sym here ∙ h, sym (rw (toZ-ofZ w64 z f) at w) ∙ t, b)
+    pub count-good : r ≡ true → Number (back z) ≡ toldCount c l s
+    count-good t = rw (sym here ∙ h, sym limited ∙ t, toZ-ofZ w64 z f)
+
+    pub count-beyond : (y : ℕ) → r ≡ false → y ≡ beyond l → Refused y ≡ toldCount c l s
+    count-beyond y t b = rw (sym here ∙ h, sym limited ∙ t, b)
 
 pub kept-most : (c : Context) (l : Limit) (n : ℕ) → n ≡ kept c l → n ≤ mostDecimals
 unfolding kept

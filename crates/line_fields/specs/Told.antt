@@ -2,7 +2,6 @@
 use Prim.Native.Nat.{ℕ}
 use mathlib.Core.List.{List}
 use mathlib.Core.Bool.{cond}
-use Rattle.law.specs.Limits.{largestLength}
 use Rattle.number.specs.Numbers.{readNumber}
 use Rattle.number.specs.Integers.{readInteger}
 use Rattle.law.specs.Dates.{isDate}
@@ -10,7 +9,7 @@ use Rattle.law.specs.Values.{Value, number, word, text}
 use Rattle.form.specs.Values.{Reply, good, refused}
 use Rattle.law.specs.Words.{wordsOf}
 use Rattle.form.specs.Compare.{placeOf}
-use Rattle.law.specs.Fits.{kept, barred}
+use Rattle.law.specs.Fits.{kept, largest, barred}
 use Rattle.form.specs.Reading.{ofCount, ofInteger, ofPlace}
 use Rattle.law.specs.declared.Rules.{Rules}
 use Rattle.law.specs.declared.Context.{Context}
@@ -28,7 +27,7 @@ told (refused n) = Refused n
 
 -- the same by type, of a bare field
 abbrev pub toldCount : Context → Limit → List ℕ → FieldReply
-toldCount c l s = told (ofCount c l (readNumber (kept c l) largestLength s))
+toldCount c l s = told (ofCount c l (readNumber (kept c l) (largest l) s))
 
 abbrev pub toldInteger : List ℕ → FieldReply
 toldInteger s = told (ofInteger (readInteger s))

@@ -7,15 +7,21 @@ use law::Limit;
 use law::Rules;
 use law::Words;
 use law::refusals;
+use number::Angle;
 use number::AngleAnswer;
 use number::Length;
+use number::LengthAnswer;
 use number::NumberAnswer;
 use number::WholeAnswer;
 ghost use mathlib.Core.Path.{_≡_};
 ghost use mathlib.Core.Bool.{true, false};
+ghost use lib.Dec.{leb};
+ghost use lib.IntN.{natAbs};
 ghost use Rattle.law.specs.Fields.{field};
-ghost use Rattle.law.specs.Limits.{inTurn};
-ghost use Rattle.law.specs.Fits.{above, versionOf, isVersion, kept, within, isBoard, barred};
+ghost use Rattle.law.specs.Limits.{largestLength, largestAngle, inTurn};
+ghost use Rattle.law.specs.Values.{number};
+ghost use Rattle.law.specs.Fits.{above, versionOf, isVersion, kept, largest, fits, isBoard, barred};
+ghost use Rattle.law.specs.declared.FieldType.the-variants.{Number};
 ghost use Rattle.form.specs.Fits.{beyond};
 ghost use Rattle.form.specs.Reading.{readField};
 ghost use Rattle.line_fields.specs.Told.{told, toldCount, toldInteger, toldWord, toldReference, toldDate};
@@ -51,26 +57,46 @@ fn is_version(v: Rules, z: i64) -> bool
     !number::is_below(z) & (number::magnitude(z) == version_of(v))
 }
 
-// Whether a count is an included angle.
-fn in_turn(z: i64) -> bool
-    ensures { λ r. ⌜ r ≡ inTurn z ⌝ }
+// Whether a count is that of a length.
+fn is_length(z: i64) -> bool
+    ensures { λ r. ⌜ r ≡ leb (natAbs z) largestLength ⌝ }
 {
-    match number::Angle::included(z) {
+    match Length::new(z) {
+        LengthAnswer::Made(_) => true,
+        LengthAnswer::Beyond => false,
+    }
+}
+
+// Whether a count is that of an angle.
+fn is_angle(z: i64) -> bool
+    ensures { λ r. ⌜ r ≡ leb (natAbs z) largestAngle ⌝ }
+{
+    match Angle::new(z) {
         AngleAnswer::Made(_) => true,
         AngleAnswer::Beyond => false,
     }
 }
 
-// Whether a count is within the limit of its field.
+// Whether a count is that of an included angle.
+fn in_turn(z: i64) -> bool
+    ensures { λ r. ⌜ r ≡ inTurn z ⌝ }
+{
+    match Angle::included(z) {
+        AngleAnswer::Made(_) => true,
+        AngleAnswer::Beyond => false,
+    }
+}
+
+// Whether a count is one of its field's kind and within the field's limit.
 pub fn is_within(c: Context, l: Limit, z: i64) -> bool
-    ensures { λ r. ⌜ r ≡ within c l z ⌝ }
+    ensures { λ r. ⌜ r ≡ fits c (Number l) (number z) ⌝ }
 {
     match l {
-        Limit::Length => true,
-        Limit::NotBelow => !number::is_below(z),
-        Limit::Above => is_above(z),
+        Limit::Length => is_length(z),
+        Limit::NotBelow => is_length(z) & !number::is_below(z),
+        Limit::Above => is_length(z) & is_above(z),
         Limit::Included => in_turn(z),
-        Limit::Rotation => true,
+        Limit::Rotation => is_angle(z),
         Limit::Version => {
             let v = c.rules;
             is_version(v, z)
@@ -99,11 +125,25 @@ fn kept_of(c: Context, l: Limit) -> usize
     5
 }
 
+// The largest magnitude of a number, by the kind that its limit belongs to.
+fn largest_of(l: Limit) -> u64
+    ensures { λ r. ⌜ r ≡ largest l ⌝ }
+{
+    match l {
+        Limit::Length => Length::LARGEST,
+        Limit::NotBelow => Length::LARGEST,
+        Limit::Above => Length::LARGEST,
+        Limit::Included => Angle::LARGEST,
+        Limit::Rotation => Angle::LARGEST,
+        Limit::Version => Length::LARGEST,
+    }
+}
+
 // A bare number: 7 where it is none or past its magnitude, 8 where it is too fine, 9 or 10 beyond its limit.
 fn count_field(c: Context, l: Limit, s: &[u8]) -> FieldReply
     ensures { λ r. ⌜ r ≡ toldCount c l (now (s .entry)) ⌝ }
 {
-    match number_read::number(s, kept_of(c, l), Length::LARGEST) {
+    match number_read::number(s, kept_of(c, l), largest_of(l)) {
         NumberAnswer::NotNumber => FieldReply::Refused(refusals::NO_NUMBER),
         NumberAnswer::TooFine => FieldReply::Refused(refusals::TOO_FINE),
         NumberAnswer::Count(z) => {

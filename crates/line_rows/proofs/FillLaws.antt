@@ -19,7 +19,6 @@ use Rattle.text_fields.specs.FirstField.{fieldOf}
 use Rattle.text_fields.specs.declared.FieldAnswer.{FieldAnswer}
 use Rattle.text_fields.specs.declared.FieldAnswer.the-variants.{Nothing, Got, Broken}
 use Rattle.text_fields.proofs.Bounds.{Bounded, bounded}
-use Rattle.law.specs.Limits.{largestLength}
 use Rattle.number.specs.Numbers.{readNumber}
 use Rattle.number.specs.Integers.{readInteger}
 use Rattle.law.specs.Dates.{isDate}
@@ -31,7 +30,7 @@ use Rattle.law.specs.Values.{Value, number, word, text}
 use Rattle.form.specs.Values.{Reply, good, refused}
 use Rattle.law.specs.Words.{wordsOf, sameBytes}
 use Rattle.form.specs.Compare.{up, placeOf}
-use Rattle.law.specs.Fits.{kept, within, meaning, barred}
+use Rattle.law.specs.Fits.{kept, largest, within, meaning, barred}
 use Rattle.form.specs.Fits.{beyond}
 use Rattle.form.specs.Reading.{ofCount, ofInteger, ofPlace, readField}
 use Rattle.law.specs.Layouts.{typesOf}
@@ -111,7 +110,7 @@ wide c D (field false s) = wide-by D (isDate s) (good (text s)) 9 refl
 wide c I (field true s) = tt
 wide c I (field false s) = wide-integer (readInteger s)
 wide c (N l) (field true s) = tt
-wide c (N l) (field false s) = wide-count c l (readNumber (kept c l) largestLength s)
+wide c (N l) (field false s) = wide-count c l (readNumber (kept c l) (largest l) s)
 wide c (W l) (field true s) = tt
 wide c (W l) (field false s) = wide-word (c .rules) l s (placeOf (wordsOf (c .rules) l) s) refl
 

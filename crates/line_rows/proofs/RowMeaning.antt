@@ -16,7 +16,6 @@ use Rattle.text_fields.specs.FirstField.{fieldOf}
 use Rattle.text_fields.specs.Fields.{fieldsBy, fieldsIn, fieldsOf}
 use Rattle.text_fields.specs.declared.FieldAnswer.{FieldAnswer}
 use Rattle.text_fields.specs.declared.FieldAnswer.the-variants.{Nothing, Got, Broken}
-use Rattle.law.specs.Limits.{largestLength}
 use Rattle.number.specs.Numbers.{readNumber}
 use Rattle.number.specs.Integers.{readInteger}
 use Rattle.law.specs.Dates.{isDate}
@@ -28,7 +27,7 @@ use Rattle.law.specs.Values.{Value, number, word, text}
 use Rattle.form.specs.Values.{Reply, good, refused}
 use Rattle.law.specs.Words.{wordsOf}
 use Rattle.form.specs.Compare.{placeOf}
-use Rattle.law.specs.Fits.{kept, within, meaning, barred}
+use Rattle.law.specs.Fits.{kept, largest, within, meaning, barred}
 use Rattle.form.specs.Fits.{beyond}
 use Rattle.form.specs.Reading.{ofCount, ofInteger, ofPlace, readField, andThen, readEach, readFields}
 use Rattle.law.specs.Layouts.{typesOf}
@@ -105,7 +104,7 @@ module _ (file : List ℕ) (a l : ℕ) (inside : a + l ≤ length file) where
   fores c I true = λ h. omega arith
   fores c I false = fores-integer (readInteger (take l (drop a file)))
   fores c (N m) true = λ h. omega arith
-  fores c (N m) false = fores-count c m (readNumber (kept c m) largestLength (take l (drop a file)))
+  fores c (N m) false = fores-count c m (readNumber (kept c m) (largest m) (take l (drop a file)))
   fores c (W ws) true = λ h. omega arith
   fores c (W ws) false = fores-word ws (placeOf (wordsOf (c .rules) ws) (take l (drop a file)))
 

@@ -1,1 +1,2 @@
 pub mod SignLaws
+pub mod MadeLaws

@@ -8,13 +8,14 @@ use native.Mathlib.Omega.{arith}
 use native.Mathlib.Nat.{zero-add, add-assoc}
 use borrow.Author.Tests.{le-leb, eq-eqb, ne-eqb, leb-true, eqb-true, not-false}
 use lib.Dec.{leb, eqb, eqb·suc-zero}
-use lib.IntN.{ℤ}
+use lib.IntN.{ℤ, natAbs}
 use Rattle.basics.proofs.Bools.{and-left, and-right, cond-cases, neither}
 use Rattle.number.specs.Signs.{signed}
 use Rattle.law.specs.Numbers.{isDigit, Digit, Numeral, one, more, Decimals, last, next, Unsigned, noPoint, withPoint, SpellsNumber, plain, plus, minus}
 use Rattle.number.specs.Numbers.{digitHere, toCount, decimals, whole, body, readNumber}
 use Rattle.number.specs.declared.NumberAnswer.{NumberAnswer}
 use Rattle.number.specs.declared.NumberAnswer.the-variants.{Count, NotNumber}
+use Rattle.number.proofs.SignLaws.{abs-signed}
 use Rattle.number_read.proofs.NumberLaws.{digit-low, digit-high}
 
 -- Digits
@@ -180,6 +181,12 @@ number-sound k x (b ∷ l) h =
     (λ f. let r = body-sound x (10 ^ k) (b ∷ l) false (f .1) in rw (r .is) (plain (r .spelled) (r .within)))
     (cond-cases (eqb b 43) (e .1)))
     (cond-cases (eqb b 45) h)
+
+-- and its magnitude is at most x
+pub number-small : {k x : ℕ} {z : ℤ} {l : List ℕ} → SpellsNumber k x z l → natAbs z ≤ x
+number-small (plain r h) = h
+number-small (plus r h) = h
+number-small (minus {c} r h) = rw (abs-signed true c) h
 
 -- So a list of bytes spells one number at most
 pub number-unique : {k x : ℕ} {y z : ℤ} {l : List ℕ} → SpellsNumber k x y l → SpellsNumber k x z l → y ≡ z

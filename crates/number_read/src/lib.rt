@@ -6,9 +6,10 @@ use number::WholeAnswer;
 ghost use mathlib.Core.Path.{_≡_};
 ghost use mathlib.Core.Bool.{false};
 ghost use Prim.Native.Nat.{_+_, _*_, _^_, _≤_, _<_};
+ghost use lib.Dec.{ltb};
 ghost use lib.ListN.{length, drop, getD};
 ghost use Rattle.number.specs.Signs.{signed};
-ghost use Rattle.law.specs.Limits.{largestLength, mostDecimals};
+ghost use Rattle.law.specs.Limits.{largestLength, largestInteger, mostDecimals};
 ghost use Rattle.law.specs.Numbers.{isDigit};
 ghost use Rattle.number.specs.Numbers.{digitHere, toCount, decimals, whole, body, readNumber};
 ghost use Rattle.number.specs.Integers.{wholeOf, unsigned, readInteger};
@@ -174,6 +175,17 @@ fn whole_of(neg: bool, n: u64) -> WholeAnswer
     }
 }
 
+// Whether a magnitude is beyond every integer.
+fn is_beyond(n: u64) -> bool
+    requires { ⌜ n < 2 ^ 63 ⌝ }
+    ensures { λ r. ⌜ r ≡ ltb largestInteger n ⌝ }
+{
+    match Integer::new(value(false, n)) {
+        IntegerAnswer::Made(_) => false,
+        IntegerAnswer::Beyond => true,
+    }
+}
+
 // The digits from `at` on, to the end.
 fn unsigned_at(s: &[u8], at: usize, neg: bool) -> WholeAnswer
     requires { ⌜ at ≤ length (now s) ⌝ }
@@ -190,7 +202,7 @@ fn unsigned_at(s: &[u8], at: usize, neg: bool) -> WholeAnswer
             return WholeAnswer::NotInteger;
         }
         n = n * 10 + (wide(b) - 48);
-        if Integer::LARGEST < n {
+        if is_beyond(n) {
             return WholeAnswer::NotInteger;
         }
         i += 1;

@@ -20,7 +20,7 @@ use Rattle.law.specs.Dates.{isDate}
 use Rattle.number_print.proofs.PrintSpelling.{digit, count-spells, integer-spells}
 use Rattle.law.specs.Values.{Value, number, word, text}
 use Rattle.law.specs.Words.{wordsOf, wordAt}
-use Rattle.law.specs.Fits.{versionOf, kept, within, meaning, barred, textByte, goodText, isEmpty, fits}
+use Rattle.law.specs.Fits.{versionOf, kept, largest, within, meaning, barred, textByte, goodText, isEmpty, fits}
 use Rattle.law.specs.declared.Rules.{Rules}
 use Rattle.law.specs.declared.Rules.the-variants.{Idf3}
 use Rattle.law.specs.declared.Context.{Context}
@@ -88,7 +88,7 @@ module _ (c : Context) where
   integer-canon : (z : ℤ) → natAbs z ≤ largestInteger → Canon c I (number z) (field false (printedInteger z))
   integer-canon z h = let r = integer-spells z h in record { spells = asInteger r; writes = asBare (tight-integer r) (safe-integer r) }
 
-  number-canon : (l : Limit) (z : ℤ) (s : List ℕ) → SpellsNumber mostDecimals largestLength z s → within c l z ≡ true → Canon c (N l) (number z) (field false s)
+  number-canon : (l : Limit) (z : ℤ) (s : List ℕ) → SpellsNumber mostDecimals (largest l) z s → within c l z ≡ true → Canon c (N l) (number z) (field false s)
   unfolding kept
   number-canon l z s r k = record { spells = asNumber r k; writes = asBare (tight-number r) (safe-number r) }
 
@@ -97,7 +97,7 @@ module _ (c : Context) where
   version-canon (pos n) h = number-canon Ver (pos n) (versionText (c .rules)) (rw (eqb-true n (versionOf (c .rules)) h) (version-spells (c .rules))) h
   version-canon (negsuc n) h = absurd (false≢true h)
 
-  count-canon : (l : Limit) (z : ℤ) → natAbs z ≤ largestLength → within c l z ≡ true → Canon c (N l) (number z) (field false (printedNumber (c .rules) l z))
+  count-canon : (l : Limit) (z : ℤ) → natAbs z ≤ largest l → within c l z ≡ true → Canon c (N l) (number z) (field false (printedNumber (c .rules) l z))
   count-canon L z h k = number-canon L z (printedCount z) (count-spells z h) k
   count-canon L0 z h k = number-canon L0 z (printedCount z) (count-spells z h) k
   count-canon Lp z h k = number-canon Lp z (printedCount z) (count-spells z h) k
@@ -125,7 +125,7 @@ module _ (c : Context) where
   field-canon I (number z) h = integer-canon z (leb-true (natAbs z) largestInteger h)
   field-canon I (text s) h = absurd (false≢true h)
   field-canon I (word n) h = absurd (false≢true h)
-  field-canon (N l) (number z) h = count-canon l z (leb-true (natAbs z) largestLength (and-left _ _ h)) (and-right (leb (natAbs z) largestLength) _ h)
+  field-canon (N l) (number z) h = count-canon l z (leb-true (natAbs z) (largest l) (and-left _ _ h)) (and-right (leb (natAbs z) (largest l)) _ h)
   field-canon (N l) (text s) h = absurd (false≢true h)
   field-canon (N l) (word n) h = absurd (false≢true h)
   field-canon (W l) (word n) h = word-canon l n (not-true _ h)

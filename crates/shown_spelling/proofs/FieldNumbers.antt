@@ -11,7 +11,7 @@ use lib.Dec.{eqb}
 use lib.IntN.{ℤ}
 use lib.ListN.{length}
 use Rattle.law.specs.Fields.{Field, field}
-use Rattle.law.specs.Limits.{largestLength}
+
 use Rattle.number.specs.Numbers.{readNumber}
 use Rattle.number.specs.Integers.{readInteger}
 use Rattle.law.specs.Dates.{isDate}
@@ -24,7 +24,7 @@ use Rattle.law.specs.Values.{Value, number, text}
 use Rattle.form.specs.Values.{Reply, good, refused}
 use Rattle.law.specs.Words.{wordsOf}
 use Rattle.form.specs.Compare.{placeOf}
-use Rattle.law.specs.Fits.{kept, within, meaning, barred}
+use Rattle.law.specs.Fits.{kept, largest, within, meaning, barred}
 use Rattle.form.specs.Fits.{beyond}
 use Rattle.form.specs.Reading.{ofCount, ofInteger, ofPlace, readField, andThen, readEach, readFields}
 use Rattle.law.specs.declared.Context.{Context}
@@ -66,7 +66,7 @@ beyond-other R h = refl
 beyond-other Ver h = absurd (h refl)
 
 module _ (c : Context) where
-  limit-fault : (l : Limit) {s : List ℕ} {z : ℤ} → SpellsNumber (kept c l) largestLength z s → within c l z ≡ false → FaultyField c (N l) (field false s) (beyond l)
+  limit-fault : (l : Limit) {s : List ℕ} {z : ℤ} → SpellsNumber (kept c l) (largest l) z s → within c l z ≡ false → FaultyField c (N l) (field false s) (beyond l)
   unfolding beyond
   limit-fault L p w = beyond-limit (not-version L refl) p w
   limit-fault L0 p w = beyond-limit (not-version L0 refl) p w
@@ -79,16 +79,16 @@ module _ (c : Context) where
   spellless e x p = no-refusal (sym (field-complete p) ∙ e)
 
   -- Sound: a refused field is faulty by its number
-  count-fault : (l : Limit) (s : List ℕ) (n : ℕ) (a : NumberAnswer) → readNumber (kept c l) largestLength s ≡ a → ofCount c l a ≡ refused n → FaultyField c (N l) (field false s) n
+  count-fault : (l : Limit) (s : List ℕ) (n : ℕ) (a : NumberAnswer) → readNumber (kept c l) (largest l) s ≡ a → ofCount c l a ≡ refused n → FaultyField c (N l) (field false s) n
   count-fault l s n (Count z) h e = go (within c l z) refl e
     where
       go : (b : Bool) → within c l z ≡ b → cond b (good (number z)) (refused (beyond l)) ≡ refused n → FaultyField c (N l) (field false s) n
       go true w e = absurd (no-refusal e)
-      go false w e = subst (FaultyField c (N l) (field false s)) (one-refusal e) (limit-fault l (number-sound (kept c l) largestLength s h) w)
+      go false w e = subst (FaultyField c (N l) (field false s)) (one-refusal e) (limit-fault l (number-sound (kept c l) (largest l) s h) w)
   count-fault l s n NotNumber h e = subst (FaultyField c (N l) (field false s)) (one-refusal e) (no-number (λ m. let i = magnitude-complete m in false≢true (rw h at i)))
   count-fault l s n TooFine h e =
       subst (FaultyField c (N l) (field false s)) (one-refusal e)
-      (too-fine (magnitude-sound (kept c l) largestLength s (rw h)) (λ z p. let i = number-complete p in let y : _≡_ {A = ℕ} 0 1 = cc in omega arith))
+      (too-fine (magnitude-sound (kept c l) (largest l) s (rw h)) (λ z p. let i = number-complete p in let y : _≡_ {A = ℕ} 0 1 = cc in omega arith))
 
   pub field-fault : (t : FieldType) (f : Field) (n : ℕ) → readField c t f ≡ refused n → FaultyField c t f n
   unfolding readField
@@ -111,7 +111,7 @@ module _ (c : Context) where
       go (Whole z) h = absurd (no-refusal (rw h at e))
       go NotInteger h = subst (FaultyField c I (field false s)) (one-refusal (rw h at e)) (no-integer (spellless e))
   field-fault (N l) (field true s) n e = subst (FaultyField c (N l) (field true s)) (one-refusal e) quoted-number
-  field-fault (N l) (field false s) n e = count-fault l s n (readNumber (kept c l) largestLength s) refl e
+  field-fault (N l) (field false s) n e = count-fault l s n (readNumber (kept c l) (largest l) s) refl e
   field-fault (W l) (field true s) n e = subst (FaultyField c (W l) (field true s)) (one-refusal e) (no-word (spellless e))
   field-fault (W l) (field false s) n e = go (placeOf (wordsOf (c .rules) l) s) refl
     where
@@ -169,16 +169,16 @@ module _ (c : Context) where
   unfolding readField beyond
   field-refused (no-integer {f} h) = only I 7 f only-integer h
   field-refused quoted-number = refl
-  field-refused (no-number {l} {s} h) = go (readNumber (kept c l) largestLength s) refl
+  field-refused (no-number {l} {s} h) = go (readNumber (kept c l) (largest l) s) refl
     where
-      go : (a : NumberAnswer) → readNumber (kept c l) largestLength s ≡ a → ofCount c l a ≡ refused 7
-      go (Count z) e = absurd (h (magnitude-sound (kept c l) largestLength s (rw e)))
+      go : (a : NumberAnswer) → readNumber (kept c l) (largest l) s ≡ a → ofCount c l a ≡ refused 7
+      go (Count z) e = absurd (h (magnitude-sound (kept c l) (largest l) s (rw e)))
       go NotNumber e = refl
-      go TooFine e = absurd (h (magnitude-sound (kept c l) largestLength s (rw e)))
-  field-refused (too-fine {l} {s} m h) = go (readNumber (kept c l) largestLength s) refl (magnitude-complete m)
+      go TooFine e = absurd (h (magnitude-sound (kept c l) (largest l) s (rw e)))
+  field-refused (too-fine {l} {s} m h) = go (readNumber (kept c l) (largest l) s) refl (magnitude-complete m)
     where
-      go : (a : NumberAnswer) → readNumber (kept c l) largestLength s ≡ a → isNumber a ≡ true → ofCount c l a ≡ refused 8
-      go (Count z) e i = absurd (h z (number-sound (kept c l) largestLength s e))
+      go : (a : NumberAnswer) → readNumber (kept c l) (largest l) s ≡ a → isNumber a ≡ true → ofCount c l a ≡ refused 8
+      go (Count z) e i = absurd (h z (number-sound (kept c l) (largest l) s e))
       go NotNumber e i = absurd (false≢true i)
       go TooFine e i = refl
   field-refused (other-version p h) = rw (number-complete p, h)

@@ -11,15 +11,14 @@ use Rattle.basics.proofs.Lists.{all-complete}
 use Rattle.law.specs.Bytes as by
 use Rattle.law.specs.Bytes.{permitted, All}
 use Rattle.law.specs.Fields.{Field, field, Spells, bare, quoted, Spelled, end, space, last, next}
-use Rattle.law.specs.Limits.{largestLength, largestInteger}
-use Rattle.law.specs.Numbers as num
-use Rattle.law.specs.Numbers.{SpellsNumber}
+use Rattle.law.specs.Limits.{largestInteger}
 use Rattle.law.specs.Integers.{SpellsInteger, plain, plus, minus}
 use Rattle.number.proofs.SignLaws.{abs-signed}
+use Rattle.number_read.proofs.NumberSpelling.{number-small}
 use Rattle.law.specs.Values.{Value, Rec}
 use Rattle.form.specs.Values.{good}
 use Rattle.law.specs.Layouts.{Front, Layout, layoutOf}
-use Rattle.law.specs.Fits.{meaning, textByte, goodText, fits, fitsAll, wellFormed, WellFormed}
+use Rattle.law.specs.Fits.{largest, meaning, textByte, goodText, fits, fitsAll, wellFormed, WellFormed}
 use Rattle.form.specs.Reading.{readLine}
 use Rattle.law.specs.declared.Context.{Context}
 use Rattle.law.specs.declared.FieldType.{FieldType}
@@ -50,12 +49,7 @@ line-clean (space r) (by.one h p) = line-clean r p
 line-clean (last f) p = also (field-clean f p) no
 line-clean (next {s = s} {t = t} f r) p = also (field-clean f (all-left s (32 ∷ t) p)) (line-clean r (all-right s p))
 
--- Numbers lie within their magnitude
-number-small : {k x : ℕ} {z : ℤ} {s : List ℕ} → SpellsNumber k x z s → natAbs z ≤ x
-number-small (num.plain u h) = h
-number-small (num.plus u h) = h
-number-small (num.minus {c} u h) = rw (abs-signed true c) h
-
+-- Integers lie within their magnitude, as numbers do
 integer-small : {z : ℤ} {s : List ℕ} → SpellsInteger z s → natAbs z ≤ largestInteger
 integer-small (plain r h) = h
 integer-small (plus r h) = h
@@ -82,7 +76,7 @@ module _ {c : Context} where
   value-fits (asReference {s = s} h) a = rw (h, text-fits Ref s a)
   value-fits (asDate h) a = h
   value-fits (asInteger {z} r) a = le-leb (natAbs z) largestInteger (integer-small r)
-  value-fits (asNumber {z = z} r h) a = rw (h, le-leb (natAbs z) largestLength (number-small r))
+  value-fits (asNumber {l} {z} r h) a = rw (h, le-leb (natAbs z) (largest l) (number-small r))
   value-fits (asWord {l} r) a = rw (listed-some (words-stand (c .rules) l) r)
 
   values-fit : {ts : List FieldType} {vs : List Value} {fs : List Field} → SpellsFields c ts vs fs → Clean fs → fitsAll c ts vs ≡ true

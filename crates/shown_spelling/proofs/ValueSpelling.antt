@@ -8,7 +8,6 @@ use borrow.Author.Tests.{eq-eqb}
 use lib.Dec.{eqb}
 use lib.ListN.{length}
 use Rattle.law.specs.Fields.{Field, field}
-use Rattle.law.specs.Limits.{largestLength}
 use Rattle.number.specs.Numbers.{readNumber}
 use Rattle.number.specs.Integers.{readInteger}
 use Rattle.law.specs.Dates.{isDate}
@@ -22,7 +21,7 @@ use Rattle.law.specs.Values.{Value, number, word, text}
 use Rattle.form.specs.Values.{Reply, good, refused}
 use Rattle.law.specs.Words.{wordsOf}
 use Rattle.form.specs.Compare.{placeOf}
-use Rattle.law.specs.Fits.{kept, within, meaning, barred}
+use Rattle.law.specs.Fits.{kept, largest, within, meaning, barred}
 use Rattle.form.specs.Fits.{beyond}
 use Rattle.form.specs.Reading.{ofCount, ofInteger, ofPlace, readField, andThen, readEach, readFields}
 use Rattle.law.specs.declared.Context.{Context}
@@ -51,11 +50,11 @@ module _ {c : Context} where
   integer-field {v} s (Whole z) h e = let p : v ≡ number (z .0) = cc in rw p (asInteger (integer-sound s z h))
   integer-field s NotInteger h e = absurd (refused-good e)
 
-  count-field : {v : Value} (l : Limit) (s : List ℕ) (a : NumberAnswer) → readNumber (kept c l) largestLength s ≡ a → ofCount c l a ≡ good v → SpellsField c (N l) v (field false s)
+  count-field : {v : Value} (l : Limit) (s : List ℕ) (a : NumberAnswer) → readNumber (kept c l) (largest l) s ≡ a → ofCount c l a ≡ good v → SpellsField c (N l) v (field false s)
   count-field {v} l s (Count z) h e =
       let g = cond-good (beyond l) (within c l z) e in
       let p : v ≡ number z = cc (g .1) in
-      rw p (asNumber (number-sound (kept c l) largestLength s h) (g .0))
+      rw p (asNumber (number-sound (kept c l) (largest l) s h) (g .0))
   count-field l s NotNumber h e = absurd (refused-good e)
   count-field l s TooFine h e = absurd (refused-good e)
 
@@ -78,7 +77,7 @@ module _ {c : Context} where
   field-sound I (field true s) e = absurd (refused-good e)
   field-sound I (field false s) e = integer-field s (readInteger s) refl e
   field-sound (N l) (field true s) e = absurd (refused-good e)
-  field-sound (N l) (field false s) e = count-field l s (readNumber (kept c l) largestLength s) refl e
+  field-sound (N l) (field false s) e = count-field l s (readNumber (kept c l) (largest l) s) refl e
   field-sound (W l) (field true s) e = absurd (refused-good e)
   field-sound (W l) (field false s) e = word-field l s (placeOf (wordsOf (c .rules) l) s) refl e
 

@@ -8,10 +8,9 @@ use lib.IntN.{natAbs}
 use borrow.Author.Tests.{not-true}
 use Rattle.basics.proofs.Bools.{both}
 use Rattle.law.specs.Fields.{Field}
-use Rattle.law.specs.Limits.{largestLength}
 use Rattle.law.specs.Values.{Value, Rec}
 use Rattle.law.specs.Layouts.{Front}
-use Rattle.law.specs.Fits.{under, kept, meaning, goodText, fits, fitsAll, wellFormed, WellFormed}
+use Rattle.law.specs.Fits.{under, kept, largest, meaning, goodText, fits, fitsAll, wellFormed, WellFormed}
 use Rattle.law.specs.declared.Rules.{Rules}
 use Rattle.law.specs.declared.FileType.{FileType}
 use Rattle.law.specs.declared.FieldType.{FieldType}
@@ -26,7 +25,7 @@ module _ {v : Rules} {a : FileType} (b : FileType) where
   field-again (asReference {s = s} e) h = asReference (not-true _ (both (goodText Ref (meaning Ref s)) _ h .1))
   field-again (asDate r) h = asDate r
   field-again (asInteger r) h = asInteger r
-  field-again (asNumber {z = z} r e) h = asNumber r (both (leb (natAbs z) largestLength) _ h .1)
+  field-again (asNumber {l} {z} r e) h = asNumber r (both (leb (natAbs z) (largest l)) _ h .1)
   field-again (asWord r) h = asWord r
 
   fields-again : {ts : List FieldType} {xs : List Value} {fs : List Field} → SpellsFields (under v a) ts xs fs → fitsAll (under v b) ts xs ≡ true → SpellsFields (under v b) ts xs fs

@@ -13,10 +13,10 @@ use Rattle.form.specs.Values.{refused}
 use Rattle.law.specs.Sections.{Shape, header, outline, component, keepout, listing, placements}
 use Rattle.law.specs.Kinds.{sectionOf, Role, opening, closing, title, name, lead, point, prop, entry, part, position, roleOf}
 use Rattle.law.specs.Layouts.{typesOf}
-use Rattle.law.specs.Fits.{under, kept, within, wellFormed}
+use Rattle.law.specs.Fits.{under, kept, largest, within, wellFormed}
 use Rattle.form.specs.Reading.{ofCount, readField, readEach, readFields}
 use Rattle.number.specs.Numbers.{readNumber}
-use Rattle.law.specs.Limits.{largestLength, mostDecimals}
+use Rattle.law.specs.Limits.{mostDecimals}
 use Rattle.number.specs.declared.NumberAnswer.{NumberAnswer}
 use Rattle.number.specs.declared.NumberAnswer.the-variants.{Count, NotNumber, TooFine}
 use Rattle.law.specs.declared.Rules.{Rules}
@@ -269,7 +269,7 @@ module _ (v : Rules) where
     field-any I (field true s) h = refl
     field-any I (field false s) h = refl
     field-any (N l) (field true s) h = refl
-    field-any (N l) (field false s) h = count-any l (readNumber mostDecimals largestLength s)
+    field-any (N l) (field false s) h = count-any l (readNumber mostDecimals (largest l) s)
     field-any (W l) (field true s) h = refl
     field-any (W l) (field false s) h = refl
 

@@ -29,7 +29,7 @@ use Rattle.shown_lists.proofs.Sound.{accepted-permitted}
 use Rattle.law.specs.Answers.{limit, reply}
 use Rattle.rows_texts.specs.Texts.{sameTexts}
 use Rattle.read.specs.Replies.{checkReply}
-use Rattle.write_columns.specs.Columns.{liesIn, rangeFits, integerFits, numberFits, wordFits, allZero, fieldsFit, rowFits}
+use Rattle.write_columns.specs.Columns.{liesIn, rangeFits, integerFits, wordFits, allZero, fieldsFit, rowFits}
 use Rattle.write_columns.specs.Records.{valuesIn}
 use Rattle.write_lines.specs.LineText.{lineText}
 use Rattle.write.specs.WholeRows.{chunks, wholeRows}
@@ -78,7 +78,7 @@ pub writes :
     × (textOf Idf3 lent (wholeRows (header 1 0 ++ component 19 20)) ≡ headerText ++ componentText)
     × (writeReply (header 1 0 ++ component 19 20) lent 200 ≡ reply 0 0 158)
     × (writeReply (header 1 0 ++ (component 19 20 ++ component 20 19)) lent 255 ≡ reply 0 0 255)
-unfolding writeReply writeText textOf lineText canonicalRecord canonicalLine canonicalFields canonicalField written joined needsQuotes isEmpty allOf begins permitted printed signOf magnitudeOf numeralOf decimalsOf wordsOf wordAt layoutOf typesOf sectionOf lineOf roleOf sections sectionNames isKind wholeRows chunks writable carries rowStep twice namedIn namesIt sameNames sameTexts sameBytes rowFits fieldsFit allZero rangeFits liesIn integerFits numberFits wordFits fits within goodText meaning barred isDate fitsIn isTwo datePieces stepped mayStand moved mayOpen after shapeOf manyLoops loopAfter eqZ valuesIn
+unfolding writeReply writeText textOf lineText canonicalRecord canonicalLine canonicalFields canonicalField written joined needsQuotes isEmpty allOf begins permitted printed signOf magnitudeOf numeralOf decimalsOf wordsOf wordAt layoutOf typesOf sectionOf lineOf roleOf sections sectionNames isKind wholeRows chunks writable carries rowStep twice namedIn namesIt sameNames sameTexts sameBytes rowFits fieldsFit allZero rangeFits liesIn integerFits wordFits fits within goodText meaning barred isDate fitsIn isTwo datePieces stepped mayStand moved mayOpen after shapeOf manyLoops loopAfter eqZ valuesIn
 writes = (refl, refl, refl, refl, refl, refl, refl, refl)
 
 -- 15: no rows; a header that ends too early; bytes past those lent; a number behind the values; a kind that no section has; a name used twice
@@ -89,7 +89,7 @@ pub refuses :
     × (writeReply (header 1 1) lent 100 ≡ reply 15 0 0)
     × (writeReply (header 1 0 ++ blank 160) lent 100 ≡ reply 15 0 0)
     × (writeReply (header 1 0 ++ (component 19 20 ++ component 19 20)) lent 100 ≡ reply 15 0 0)
-unfolding writeReply writeText textOf lineText canonicalRecord canonicalLine canonicalFields canonicalField written joined needsQuotes isEmpty allOf begins permitted printed signOf magnitudeOf numeralOf decimalsOf wordsOf wordAt layoutOf typesOf sectionOf lineOf roleOf sections sectionNames isKind wholeRows chunks writable carries rowStep twice namedIn namesIt sameNames sameTexts sameBytes rowFits fieldsFit allZero rangeFits liesIn integerFits numberFits wordFits fits within goodText meaning barred isDate fitsIn isTwo datePieces stepped mayStand moved mayOpen after shapeOf manyLoops loopAfter eqZ valuesIn
+unfolding writeReply writeText textOf lineText canonicalRecord canonicalLine canonicalFields canonicalField written joined needsQuotes isEmpty allOf begins permitted printed signOf magnitudeOf numeralOf decimalsOf wordsOf wordAt layoutOf typesOf sectionOf lineOf roleOf sections sectionNames isKind wholeRows chunks writable carries rowStep twice namedIn namesIt sameNames sameTexts sameBytes rowFits fieldsFit allZero rangeFits liesIn integerFits wordFits fits within goodText meaning barred isDate fitsIn isTwo datePieces stepped mayStand moved mayOpen after shapeOf manyLoops loopAfter eqZ valuesIn
 refuses = (refl, refl, refl, refl, refl, refl)
 
 abbrev of : ℕ → List Value → Rec

@@ -8,11 +8,11 @@ use lib.IntN.{ℤ, natAbs}
 use lib.ListN.{length}
 use Rattle.rows.specs.Columns.{columnAt, typeInRow, pointIn, kindColumn}
 use Rattle.basics.proofs.Bools.{and-left, and-right, and-both}
-use Rattle.law.specs.Limits.{largestLength, below}
+use Rattle.law.specs.Limits.{below}
 use Rattle.law.specs.Values.{text}
 use Rattle.form_layouts.specs.Letters.{widthOf, isKind}
 use Rattle.law.specs.Layouts.{typesOf}
-use Rattle.law.specs.Fits.{under, barred, goodText, within, fits}
+use Rattle.law.specs.Fits.{under, barred, goodText, largest, within, fits}
 use Rattle.law.specs.declared.Rules.{Rules}
 use Rattle.law.specs.declared.FileType.{FileType}
 use Rattle.law.specs.declared.Limit.{Limit}
@@ -25,7 +25,7 @@ use Rattle.order.specs.declared.Outcome.{Outcome}
 use Rattle.order.specs.declared.Outcome.the-variants.{Next, Refused}
 use Rattle.order.specs.declared.Reason.the-variants.{Unfit}
 use Rattle.rows_texts.specs.Texts.{textAt}
-use Rattle.write_columns.specs.Columns.{liesIn, rangeFits, numberFits, fieldFits, columnFits, fieldsFit, kindIn, rowFits}
+use Rattle.write_columns.specs.Columns.{liesIn, rangeFits, fieldFits, columnFits, fieldsFit, kindIn, rowFits}
 use Rattle.write_lines.specs.LineText.{anywhere}
 use Rattle.write.specs.Writable.{rowStep, carries}
 use Rattle.write.specs.Outcomes.{allFit}
@@ -54,12 +54,12 @@ module _ (v : Rules) (u : FileType) (bytes : List ℕ) where
   within-any Ver z h = h
 
   field-any : (t : FieldType) (a b : ℤ) → fieldFits (under v u) t bytes a b ≡ true → fieldFits (anywhere v) t bytes a b ≡ true
-  unfolding numberFits
+  unfolding fits
   field-any T a b h = range-any T a b h
   field-any Ref a b h = range-any Ref a b h
   field-any D a b h = range-any D a b h
   field-any I a b h = h
-  field-any (N l) a b h = and-both _ _ (and-left (leb (natAbs a) largestLength) _ h) (within-any l a (and-right (leb (natAbs a) largestLength) _ h))
+  field-any (N l) a b h = and-both _ _ (and-left (leb (natAbs a) (largest l)) _ h) (within-any l a (and-right (leb (natAbs a) (largest l)) _ h))
   field-any (W l) a b h = h
 
   fields-any : (row : List ℤ) (ts : List FieldType) (i : ℕ) → fieldsFit (under v u) bytes row ts i ≡ true → fieldsFit (anywhere v) bytes row ts i ≡ true

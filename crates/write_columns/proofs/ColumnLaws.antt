@@ -20,12 +20,12 @@ use Rattle.basics.proofs.Integers.{back}
 use Rattle.basics.proofs.Lists.{all-more, all-stop, all-over}
 use Rattle.basics.proofs.Bools.{and-left, and-right}
 use Rattle.law.specs.Bytes.{allOf, permitted}
-use Rattle.law.specs.Limits.{largestLength, largestInteger, below}
+use Rattle.law.specs.Limits.{largestInteger, below}
 use Rattle.law.specs.Dates.{isDate}
-use Rattle.law.specs.Values.{text}
+use Rattle.law.specs.Values.{number, text}
 use Rattle.law.specs.Words.{wordsOf, wordAt}
 use Rattle.form_words.specs.Padded.{trimmed, wordRow}
-use Rattle.law.specs.Fits.{textByte, barred, within, isEmpty, goodText, meaning, fits}
+use Rattle.law.specs.Fits.{textByte, barred, isEmpty, goodText, meaning, fits}
 use Rattle.law.specs.declared.Rules.{Rules}
 use Rattle.law.specs.declared.Context.{Context}
 use Rattle.law.specs.declared.Words.{Words}
@@ -33,7 +33,7 @@ use Rattle.law.specs.declared.Limit.{Limit}
 use Rattle.law.specs.declared.FieldType.{FieldType}
 use Rattle.law.specs.declared.FieldType.the-variants.{Text as T, Reference as Ref, Date as D, Integer as I, Number as N, Word as W}
 use Rattle.form_words.proofs.RowLaws.{word-held}
-use Rattle.write_columns.specs.Columns.{liesIn, rangeFits, integerFits, numberFits, wordFits, fieldFits, columnFits, allZero}
+use Rattle.write_columns.specs.Columns.{liesIn, rangeFits, integerFits, wordFits, fieldFits, columnFits, allZero}
 
 -- a byte of a text
 pub text-byte : (b : ℕ) (x : Bool) → x ≡ permitted b → (x && not (eqb b 34)) ≡ textByte b
@@ -60,15 +60,10 @@ module _ (n : ℕ) (a l : ℤ) (x y : Bool) (fa : SFits w64 a) (fl : SFits w64 l
     unfolding liesIn
     lies-by p k j = rw (sym signs ∙ h, sym long, le-leb m n k, j, toZ-ofZ w64 a fa)
 
--- an integer, a count
-pub integer-by : (z : ℤ) (m : ℕ) → SFits w64 z → m ≡ natAbs (back z) → leb m largestInteger ≡ integerFits z
+-- an integer, by its constructor's answer
+pub integer-held : (z : ℤ) (x : Bool) → x ≡ leb (natAbs z) largestInteger → x ≡ integerFits z
 unfolding integerFits
-integer-by z m f e = rw (e, toZ-ofZ w64 z f)
-
-pub number-by : (c : Context) (l : Limit) (z : ℤ) (m : ℕ) (x : Bool) → SFits w64 z → m ≡ natAbs (back z) → x ≡ within c l (back z)
-    → (leb m largestLength && x) ≡ numberFits c l z
-unfolding numberFits
-number-by c l z m x f e i = rw (e, i, toZ-ofZ w64 z f)
+integer-held z x e = e
 
 -- a word
 empty-length : (s : List ℕ) → not (isEmpty s) ≡ not (eqb (length s) 0)
@@ -206,7 +201,7 @@ module _ (c : Context) (bytes : List ℕ) (a b : ℤ) (fa : SFits w64 a) (fb : S
   pub field-integer : (t : FieldType) (x : Bool) → t ≡ I → x ≡ integerFits (back a) → x ≡ fieldFits c t bytes a b
   field-integer t x h e = rw h (e ∙ rw (toZ-ofZ w64 a fa))
 
-  pub field-number : (t : FieldType) (l : Limit) (x : Bool) → t ≡ N l → x ≡ numberFits c l (back a) → x ≡ fieldFits c t bytes a b
+  pub field-number : (t : FieldType) (l : Limit) (x : Bool) → t ≡ N l → x ≡ fits c (N l) (number (back a)) → x ≡ fieldFits c t bytes a b
   field-number t l x h e = rw h (e ∙ rw (toZ-ofZ w64 a fa))
 
   pub field-word : (t : FieldType) (l : Words) (x : Bool) → t ≡ W l → x ≡ wordFits (c .rules) l (back a) → x ≡ fieldFits c t bytes a b

@@ -20,7 +20,7 @@ use Rattle.law.specs.declared.Words.{Words}
 use Rattle.law.specs.declared.FieldType.{FieldType}
 use Rattle.law.specs.declared.FieldType.the-variants.{Text as T, Reference as Ref, Date as D, Integer as I, Number as N, Word as W}
 use Rattle.law.specs.Rows.{isText, isNumber, Means, none, aNumber, aWord, aDate, aText, Holds}
-use Rattle.write_columns.specs.Columns.{liesIn, rangeFits, integerFits, numberFits, wordFits, fieldFits, allZero, fieldsFit, rowFits}
+use Rattle.write_columns.specs.Columns.{liesIn, rangeFits, integerFits, wordFits, fieldFits, allZero, fieldsFit, rowFits}
 use Rattle.write_columns.specs.Records.{valueIn, valuesIn, recordIn}
 
 zeros-zero : (n : ℕ) → allZero (replicate n (pos 0)) ≡ true
@@ -49,7 +49,7 @@ record Told (c : Context) (bytes : List ℕ) (t : FieldType) (a b : ℤ) (v : Va
 
 module _ (c : Context) (bytes : List ℕ) where
   number-told : (t : FieldType) (z b : ℤ) → isNumber t ≡ true → (widthOf t ≡ 1) × Told c bytes t z b (number z)
-  unfolding fits integerFits numberFits
+  unfolding fits integerFits
   number-told T z b h = absurd (false≢true h)
   number-told Ref z b h = absurd (false≢true h)
   number-told D z b h = absurd (false≢true h)

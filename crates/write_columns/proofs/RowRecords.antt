@@ -27,7 +27,7 @@ use Rattle.law.specs.declared.FieldType.the-variants.{Text as T, Reference as R
 use Rattle.form_layouts.proofs.KindLaws.{nine}
 use Rattle.law.specs.Rows.{width, isText, Means, none, aNumber, aWord, aDate, aText, Holds}
 use Rattle.rows_texts.specs.Texts.{textAt}
-use Rattle.write_columns.specs.Columns.{liesIn, rangeFits, integerFits, numberFits, wordFits, columnFits, allZero, fieldsFit, kindIn, rowFits}
+use Rattle.write_columns.specs.Columns.{liesIn, rangeFits, integerFits, wordFits, columnFits, allZero, fieldsFit, kindIn, rowFits}
 use Rattle.write_columns.specs.Records.{valueIn, valuesIn, recordIn}
 
 -- a number that is not below zero is its magnitude
@@ -144,7 +144,7 @@ module _ (c : Context) (bytes : List ℕ) (row : List ℤ) (wide : length row �
 
     one-held : (t : FieldType) → k + widthOf t ≤ width → columnFits c t bytes row k ≡ true → Held c bytes row ts (k + widthOf t) vs
         → Held c bytes row (t ∷ ts) k (valueIn t bytes first second ∷ vs)
-    unfolding fits integerFits numberFits wordFits
+    unfolding fits integerFits wordFits
     one-held T w f r = text-held T refl (omega arith) f r
     one-held Ref w f r = text-held Ref refl (omega arith) f r
     one-held D w f r = date-held (omega arith) f r

@@ -7,15 +7,14 @@ use lib.IntN.{ℤ, pos, natAbs}
 use lib.ListN.{length, drop}
 use Rattle.rows.specs.Columns.{columnAt, kindColumn}
 use Rattle.basics.specs.Integers.{eqZ}
-use Rattle.law.specs.Limits.{largestLength, largestInteger, below}
-use Rattle.law.specs.Values.{text}
+use Rattle.law.specs.Limits.{largestInteger, below}
+use Rattle.law.specs.Values.{number, text}
 use Rattle.form_layouts.specs.Letters.{widthOf, isKind}
 use Rattle.law.specs.Layouts.{typesOf}
-use Rattle.law.specs.Fits.{within, goodWord, fits}
+use Rattle.law.specs.Fits.{goodWord, fits}
 use Rattle.law.specs.declared.Rules.{Rules}
 use Rattle.law.specs.declared.Context.{Context}
 use Rattle.law.specs.declared.Words.{Words}
-use Rattle.law.specs.declared.Limit.{Limit}
 use Rattle.law.specs.declared.FieldType.{FieldType}
 use Rattle.law.specs.declared.FieldType.the-variants.{Text as T, Reference as Ref, Date as D, Integer as I, Number as N, Word as W}
 use Rattle.rows_texts.specs.Texts.{textAt}
@@ -31,9 +30,6 @@ rangeFits c t bytes a l = liesIn (length bytes) a l && fits c t (text (textAt by
 unfoldable pub integerFits : ℤ → Bool
 integerFits z = leb (natAbs z) largestInteger
 
-unfoldable pub numberFits : Context → Limit → ℤ → Bool
-numberFits c l z = leb (natAbs z) largestLength && within c l z
-
 -- the place of a word is not below zero
 unfoldable pub wordFits : Rules → Words → ℤ → Bool
 wordFits v l z = not (below z) && goodWord v l (natAbs z)
@@ -44,7 +40,7 @@ fieldFits c T bytes a b = rangeFits c T bytes a b
 fieldFits c Ref bytes a b = rangeFits c Ref bytes a b
 fieldFits c D bytes a b = rangeFits c D bytes a b
 fieldFits c I bytes a b = integerFits a
-fieldFits c (N l) bytes a b = numberFits c l a
+fieldFits c (N l) bytes a b = fits c (N l) (number a)
 fieldFits c (W l) bytes a b = wordFits (c .rules) l a
 
 abbrev pub columnFits : Context → FieldType → List ℕ → List ℤ → ℕ → Bool

@@ -1,11 +1,10 @@
 // Rows that are to be written: whether the columns of a row hold the values of a record, over the bytes that are lent with them.
 use law::Context;
 use law::FieldType;
-use law::Limit;
 use law::Rules;
 use law::Words;
 use number::Integer;
-use number::Length;
+use number::IntegerAnswer;
 use rows::WIDTH;
 ghost use mathlib.Core.Path.{_≡_};
 ghost use Prim.Native.Nat.{_<_};
@@ -14,7 +13,7 @@ ghost use Rattle.law.specs.Bytes.{allOf};
 ghost use Rattle.law.specs.Values.{text};
 ghost use Rattle.law.specs.Layouts.{typesOf};
 ghost use Rattle.law.specs.Fits.{textByte, fits};
-ghost use Rattle.write_columns.specs.Columns.{liesIn, wordFits, integerFits, numberFits, rangeFits, fieldFits, columnFits, allZero, fieldsFit, rowFits};
+ghost use Rattle.write_columns.specs.Columns.{liesIn, wordFits, integerFits, rangeFits, fieldFits, columnFits, allZero, fieldsFit, rowFits};
 
 // Whether a byte may stand in a text: it is permitted, and no quote.
 fn in_text(b: u8) -> bool
@@ -81,14 +80,10 @@ fn range_fits(c: Context, t: FieldType, bytes: &[u8], start: i64, len: i64) -> b
 fn integer_fits(z: i64) -> bool
     ensures { λ r. ⌜ r ≡ integerFits z ⌝ }
 {
-    number::magnitude(z) <= Integer::LARGEST
-}
-
-// Whether a number is a count within the limits of its field.
-fn number_fits(c: Context, l: Limit, z: i64) -> bool
-    ensures { λ r. ⌜ r ≡ numberFits c l z ⌝ }
-{
-    (number::magnitude(z) <= Length::LARGEST) & line_fields::is_within(c, l, z)
+    match Integer::new(z) {
+        IntegerAnswer::Made(_) => true,
+        IntegerAnswer::Beyond => false,
+    }
 }
 
 // Whether a number is the place of a word.
@@ -111,7 +106,7 @@ fn field_fits(c: Context, t: FieldType, bytes: &[u8], a: i64, b: i64) -> bool
         FieldType::Reference => range_fits(c, t, bytes, a, b),
         FieldType::Date => range_fits(c, t, bytes, a, b),
         FieldType::Integer => integer_fits(a),
-        FieldType::Number(l) => number_fits(c, l, a),
+        FieldType::Number(l) => line_fields::is_within(c, l, a),
         FieldType::Word(l) => {
             let v = c.rules;
             word_fits(v, l, a)

@@ -22,7 +22,9 @@ use Rattle.law.specs.Printing.{printedCount, printedInteger}
 use Rattle.number_print.proofs.PrintLaws.{wrote-length, wrote-more}
 use Rattle.law.specs.Kinds.{sectionOf, roleOf}
 use Rattle.form_words.specs.Padded.{trimmed, blankRow, nameRow, wordRow}
-use Rattle.law.specs.Fits.{isEmpty, within}
+use Rattle.law.specs.Values.{number}
+use Rattle.law.specs.Fits.{isEmpty, largest, within, fits}
+use Rattle.law.proofs.LargestLaws.{largest-most}
 use Rattle.law.specs.declared.Rules.{Rules}
 use Rattle.law.specs.declared.Rules.the-variants.{Idf3}
 use Rattle.law.specs.declared.Words.{Words}
@@ -35,7 +37,7 @@ use Rattle.law.specs.Canonical.{needsQuotes, versionText, printedNumber, canoni
 use Rattle.order.specs.Automaton.{roleNumber}
 use Rattle.rows_texts.specs.Texts.{textAt}
 use Rattle.law.specs.Answers.{limit}
-use Rattle.write_columns.specs.Columns.{liesIn, rangeFits, integerFits, numberFits, fieldFits, columnFits}
+use Rattle.write_columns.specs.Columns.{liesIn, rangeFits, integerFits, fieldFits, columnFits}
 use Rattle.write_columns.proofs.ColumnLaws.{lies-ends}
 use Rattle.write_lines.specs.LineText.{anywhere, upTo, markOf, nameAt, behindOf, frontText, valueText, endedText, columnText}
 
@@ -280,10 +282,10 @@ module _ (v : Rules) (t : FieldType) (bytes : List ℕ) (a b : ℤ) (fa : SFits 
     small-integer h = let k : leb (natAbs a) largestInteger ≡ true = rw h at g in rw (toZ-ofZ w64 a fa) (omega (arith, leb-true (natAbs a) largestInteger k))
 
     pub small-number : (l : Limit) → t ≡ N l → natAbs (back a) ≤ largestLength
-    unfolding numberFits
+    unfolding fits
     small-number l h =
-        let k : numberFits (anywhere v) l a ≡ true = rw h at g in
-        rw (toZ-ofZ w64 a fa) (leb-true (natAbs a) largestLength (and-left (leb (natAbs a) largestLength) (within (anywhere v) l a) k))
+        let k : fits (anywhere v) (N l) (number a) ≡ true = rw h at g in
+        rw (toZ-ofZ w64 a fa) (omega (arith, leb-true (natAbs a) (largest l) (and-left (leb (natAbs a) (largest l)) (within (anywhere v) l a) k), largest-most l))
 
 -- sums up to the limit
 pub up-over : (n : ℕ) → limit < n → limit + 1 ≡ upTo n

@@ -1,13 +1,16 @@
 -- `line_fields::count_field` meets its contract. Assumes nothing.
 use borrow.Author.Needs.{needs}
-use Rattle.line_fields.proofs.FieldLaws.{kept-most, count-not, count-fine, count-good, count-beyond}
+use Rattle.line_fields.proofs.FieldLaws.{kept-most, largest-fits, count-not, count-fine, count-good, count-beyond}
 use Rattle.line_fields.proofs.count_field.Statement.{statement}
 use Rattle.line_fields.proofs.count_field.Tie as tie
 
-ruleset laws = (kept-most, count-not, count-fine, count-good, count-beyond, needs)
+ruleset laws = (kept-most, largest-fits, count-not, count-fine, count-good, count-beyond, needs)
 
 kept-of-requires : tie.Need-kept-of-requires
 kept-of-requires c κs = search laws
+
+largest-of-requires : tie.Need-largest-of-requires
+largest-of-requires c κs = search laws
 
 number-requires : tie.Need-number-requires
 number-requires c κs = search laws
@@ -42,4 +45,4 @@ returns-4 c = search laws
 pub count-field-spec : {M : Type 1} → statement M
 count-field-spec =
     tie.close
-    (tie.spec kept-of-requires number-requires enum-told enum-told-2 enum-known-z is-within-requires beyond-of-requires returns returns-2 returns-3 returns-4)
+    (tie.spec kept-of-requires largest-of-requires number-requires enum-told enum-told-2 enum-known-z is-within-requires beyond-of-requires returns returns-2 returns-3 returns-4)

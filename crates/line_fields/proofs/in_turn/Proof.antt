@@ -1,10 +1,10 @@
 -- `line_fields::in_turn` meets its contract. Assumes nothing.
 use borrow.Author.Needs.{needs}
-use Rattle.line_fields.proofs.FieldLaws.{turn-made, turn-beyond}
+use Rattle.number.proofs.MadeLaws.{included-made, included-beyond}
 use Rattle.line_fields.proofs.in_turn.Statement.{statement}
 use Rattle.line_fields.proofs.in_turn.Tie as tie
 
-ruleset laws = (turn-made, turn-beyond, needs)
+ruleset laws = (included-made, included-beyond, needs)
 
 included-requires : tie.Need-included-requires
 included-requires c κs = search laws

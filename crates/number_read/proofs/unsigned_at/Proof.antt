@@ -6,8 +6,9 @@ use mathlib.Core.List.{List}
 use mir.Syntax.{w64}
 use mir.Val.{Fits}
 use borrow.Author.Needs.{needs}
-use borrow.Author.Tests.{not-true, not-false}
+use borrow.Author.Tests.{not-true, not-false, ltb-true, ltb-false}
 use native.Mathlib.Omega.{arith}
+use lib.Dec.{ltb}
 use lib.ListN.{length, drop, getD}
 use Rattle.law.specs.Limits.{largestInteger}
 use Rattle.law.specs.Numbers.{isDigit}
@@ -46,8 +47,8 @@ module _ (s : List ℕ) (i : ℕ) (neg : Bool) (n : ℕ) {g : WholeAnswer} (inv 
     turn : (x : ℕ) → not r ≡ false → x ≡ getD s i 0 → wholeBy neg (digits (n * 10 + (x - 48)) (drop (i + 1) s)) ≡ g
     turn x t q = rw q (ap (wholeBy neg) (sym (digits-more s i n h (sym e ∙ not-false r t))) ∙ inv)
 
-    big : (x : ℕ) → not r ≡ false → x ≡ getD s i 0 → largestInteger < n * 10 + (x - 48) → NotInteger ≡ g
-    big x t q k = sym (digits-big (drop (i + 1) s) neg _ k) ∙ turn x t q
+    big : (x : ℕ) (o : Bool) → not r ≡ false → x ≡ getD s i 0 → o ≡ ltb largestInteger (n * 10 + (x - 48)) → o ≡ true → NotInteger ≡ g
+    big x o t q k y = sym (digits-big (drop (i + 1) s) neg _ (ltb-true largestInteger _ (sym k ∙ y))) ∙ turn x t q
 
 module _ (b x : ℕ) (r : Bool) (e : r ≡ isDigit b) (t : not r ≡ false) (q : x ≡ b) where
   low : 48 ≤ x
@@ -56,10 +57,16 @@ module _ (b x : ℕ) (r : Bool) (e : r ≡ isDigit b) (t : not r ≡ false) (q :
   sum-fits : (n : ℕ) → n ≤ largestInteger → Fits w64 (n * 10 + (x - 48))
   sum-fits n h = omega (arith, digit-high b (sym e ∙ not-false r t))
 
+  sum-small : (n : ℕ) → n ≤ largestInteger → n * 10 + (x - 48) < 2 ^ 63
+  sum-small n h = omega (arith, digit-high b (sym e ∙ not-false r t))
+
+in-reach : (m : ℕ) (o : Bool) → o ≡ ltb largestInteger m → o ≡ false → m ≤ largestInteger
+in-reach m o k y = ltb-false largestInteger m (sym k ∙ y)
+
 small : (n : ℕ) → n ≤ largestInteger → n < 2 ^ 63
 small n h = omega arith
 
-ruleset laws = (needs, nothing, start, finish, bad, turn, big, low, sum-fits, small)
+ruleset laws = (needs, nothing, start, finish, bad, turn, big, low, sum-fits, sum-small, in-reach, small)
 
 digit-at-requires : tie.Need-digit-at-requires Inv-loop μ-loop
 digit-at-requires c κs = search laws
@@ -91,6 +98,9 @@ sub-n c = search laws
 add-n : tie.Need-add-n Inv-loop μ-loop
 add-n c = search laws
 
+is-beyond-requires : tie.Need-is-beyond-requires Inv-loop μ-loop
+is-beyond-requires c κs = search laws
+
 returns-3 : tie.Need-returns-3 Inv-loop μ-loop
 returns-3 c = search laws
 
@@ -112,4 +122,4 @@ returns-4 c = search laws
 pub unsigned-at-spec : {M : Type 1} → statement M
 unsigned-at-spec =
     tie.close
-    (tie.spec Inv-loop μ-loop digit-at-requires returns loop-holds shared-slice-read-b is-digit-requires returns-2 mul-n wide-requires sub-n add-n returns-3 add-i loop-less loop-again whole-of-requires returns-4)
+    (tie.spec Inv-loop μ-loop digit-at-requires returns loop-holds shared-slice-read-b is-digit-requires returns-2 mul-n wide-requires sub-n add-n is-beyond-requires returns-3 add-i loop-less loop-again whole-of-requires returns-4)

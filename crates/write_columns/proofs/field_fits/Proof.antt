@@ -33,8 +33,8 @@ integer-fits-requires c κs = search laws
 enum-known-t : tie.Need-enum-known-t
 enum-known-t c = search laws
 
-number-fits-requires : tie.Need-number-fits-requires
-number-fits-requires c κs = search laws
+is-within-requires : tie.Need-is-within-requires
+is-within-requires c κs = search laws
 
 enum-known-t-2 : tie.Need-enum-known-t-2
 enum-known-t-2 c = search laws
@@ -63,4 +63,4 @@ returns-6 c = search laws
 pub field-fits-spec : {M : Type 1} → statement M
 field-fits-spec =
     tie.close
-    (tie.spec enum-told range-fits-requires enum-told-2 range-fits-requires-2 enum-told-3 range-fits-requires-3 enum-told-4 integer-fits-requires enum-known-t number-fits-requires enum-known-t-2 word-fits-requires returns returns-2 returns-3 returns-4 returns-5 returns-6)
+    (tie.spec enum-told range-fits-requires enum-told-2 range-fits-requires-2 enum-told-3 range-fits-requires-3 enum-told-4 integer-fits-requires enum-known-t is-within-requires enum-known-t-2 word-fits-requires returns returns-2 returns-3 returns-4 returns-5 returns-6)
