@@ -50,7 +50,7 @@ two-lines = lines.next (by.one refl by.none) (lines.last (by.one refl by.none))
 
 -- numbers: the hundred-thousandth keeps its sign, and a sixth decimal may be 0
 
-digit : (d : ℕ) → d < 10 → Digit d (48 + d)
+pub digit : (d : ℕ) → d < 10 → Digit d (48 + d)
 digit d h = record { small = h; byte = refl }
 
 zero-digit : Digit 0 48

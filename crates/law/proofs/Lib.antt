@@ -1,4 +1,5 @@
 pub mod Samples
 pub mod Computed
 pub mod Derived
+pub mod Faulted
 pub mod LargestLaws

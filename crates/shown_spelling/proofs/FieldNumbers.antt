@@ -11,7 +11,6 @@ use lib.Dec.{eqb}
 use lib.IntN.{ℤ}
 use lib.ListN.{length}
 use Rattle.law.specs.Fields.{Field, field}
-
 use Rattle.number.specs.Numbers.{readNumber}
 use Rattle.number.specs.Integers.{readInteger}
 use Rattle.law.specs.Dates.{isDate}
