@@ -92,7 +92,7 @@ pub extern "C" fn quayladle_fields(
     ensures { λ _. ⌜ now (place .exit) ≡ ofPlace (stepOf (now (file .entry)) at line (length (now (out .entry)))) ⌝ }
     ensures { λ _. ⌜ now (out .exit) ≡ placesAfter (now (file .entry)) at line (now (out .entry)) ⌝ }
 {
-    let s = viewer::line::fields_at(file, at, line, out);
+    let s = viewer::step_at(file, at, line, out);
     *place = of_place(s);
     *reply = of_one(s.reply);
 }

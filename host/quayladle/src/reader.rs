@@ -1,4 +1,6 @@
 //! The line reader: a file's lines, one at a time, by the places of their fields.
+//!
+//! Each call goes through the proved reader: it is opened at the place that is kept here, and called once.
 
 use crate::ffi;
 use crate::reply::Reply;

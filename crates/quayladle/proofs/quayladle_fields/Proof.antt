@@ -6,8 +6,8 @@ use Rattle.quayladle.proofs.quayladle_fields.Tie as tie
 
 ruleset laws = (told-step, told-place, needs)
 
-fields-at-requires : tie.Need-fields-at-requires
-fields-at-requires c κs = search laws
+step-at-requires : tie.Need-step-at-requires
+step-at-requires c κs = search laws
 
 of-place-requires : tie.Need-of-place-requires
 of-place-requires c κs = search laws
@@ -24,4 +24,4 @@ returns c = search laws
 pub quayladle-fields-spec : {M : Type 1} → statement M
 quayladle-fields-spec =
     tie.close
-    (tie.spec fields-at-requires of-place-requires of-one-requires same-length returns)
+    (tie.spec step-at-requires of-place-requires of-one-requires same-length returns)
