@@ -41,26 +41,26 @@ use Rattle.law.specs.Answers.{reply}
 use Rattle.read.specs.Replies.{endedBy, surveyed, checkReply}
 
 -- a bare field where a length stands, and where the angle of a point stands: its count, or the number of its refusal
-abbrev length : String → Reply Value
-length s = readField (under Idf3 Board) (Number Length) (field false (ascii s))
+abbrev asLength : String → Reply Value
+asLength s = readField (under Idf3 Board) (Number Length) (field false (ascii s))
 
-abbrev angle : String → Reply Value
-angle s = readField (under Idf3 Board) (Number Included) (field false (ascii s))
+abbrev asAngle : String → Reply Value
+asAngle s = readField (under Idf3 Board) (Number Included) (field false (ascii s))
 
 pub p-table :
-    (length "-0.00001" ≡ good (number (negsuc 0)))
-    × (length "-0" ≡ good (number (pos 0)))
-    × (length "+007" ≡ good (number (pos 700_000)))
-    × (length "1.000010" ≡ good (number (pos 100_001)))
-    × (length "999999.99999" ≡ good (number (pos largestLength)))
+    (asLength "-0.00001" ≡ good (number (negsuc 0)))
+    × (asLength "-0" ≡ good (number (pos 0)))
+    × (asLength "+007" ≡ good (number (pos 700_000)))
+    × (asLength "1.000010" ≡ good (number (pos 100_001)))
+    × (asLength "999999.99999" ≡ good (number (pos largestLength)))
     × (largestLength ≡ 99_999_999_999)
-    × (length "1000000" ≡ refused 7)
-    × (length "1.000001" ≡ refused 8)
-    × (length "5." ≡ refused 7)
-    × (length "1e3" ≡ refused 7)
-    × (angle "360.00001" ≡ refused 10)
-    × (angle "-360" ≡ refused 10)
-    × (angle "-359.99999" ≡ good (number (negsuc 35_999_998)))
+    × (asLength "1000000" ≡ refused 7)
+    × (asLength "1.000001" ≡ refused 8)
+    × (asLength "5." ≡ refused 7)
+    × (asLength "1e3" ≡ refused 7)
+    × (asAngle "360.00001" ≡ refused 10)
+    × (asAngle "-360" ≡ refused 10)
+    × (asAngle "-359.99999" ≡ good (number (negsuc 35_999_998)))
     × (checkReply [] ≡ reply 13 1 0)
     × (checkReply (ascii ".HEADER" ++ (10 ∷ (ascii "LIBRARY_FILE 3.0 s 2024/05/06.07:08:09 1" ++ (10 ∷ (ascii ".END_HEADER" ++ (10 ∷ [])))))) ≡ reply 0 0 3)
 unfolding checkReply surveyed endedBy repeatIn traceAt traceIn turnOf lineIn judged ofKind dataBy filledBy kindOf filled fillFrom entryAt lineEnd contentLen endLen lineAs begins allOf permitted fieldsOf fieldsIn fieldOf fieldAt bareAt endsWell span keywordOf keyFrom folded sameBytes placeOf wordsOf sections sectionNames kindAt sectionOf lineOf roleOf layoutOf typesOf keyKind dataKind mayStand mayOpen moved stepped shapeOf eqZ meaning kept within beyond readField readNumber body whole decimals toCount digitHere readInteger unsigned digits isDate fitsIn isTwo datePieces
