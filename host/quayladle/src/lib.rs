@@ -13,6 +13,25 @@
 //! assert_eq!(refusal.line, 2);
 //! assert_eq!(refusal.to_string(), "6 number of fields: the line has too few fields or too many");
 //! ```
+//!
+//! # Stack
+//!
+//! The library has no heap: its tables stand on the stack of the thread that calls it. A call takes
+//! 500 KiB of it, [`judge`] 980 KiB, however small the files are; [`Reader::next`] takes next to
+//! nothing. Threads of the standard library have 2 MiB. A thread that is started with a stack of
+//! its own size needs these and 16 KiB for itself:
+//!
+//! ```
+//! let file = b".HEADER\nLIBRARY_FILE 3 s 2024/05/06.07:08:09 1\n.END_HEADER\n";
+//! let thread = std::thread::Builder::new().stack_size((500 + 16) << 10);
+//! let checking = thread.spawn(|| quayladle::check(file))?;
+//! assert_eq!(checking.join().unwrap().done(), Ok(3));
+//! # Ok::<(), std::io::Error>(())
+//! ```
+//!
+//! With less the process ends by a signal and without an answer: the library's code touches every
+//! page of a large frame in turn, so it meets the guard page below the stack and cannot pass over
+//! it. A stack without a guard page has nothing to stop it there.
 
 #![warn(missing_docs)]
 
