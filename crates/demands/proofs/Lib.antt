@@ -3,6 +3,7 @@ pub mod Outside
 pub mod Answers
 pub mod WriteAnswers
 pub mod Demands
+pub mod Starts
 pub mod Numbers
 pub mod Examples
 pub mod PTable

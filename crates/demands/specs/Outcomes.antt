@@ -1,4 +1,4 @@
--- What the contracts of `check`, `read`, `write`, `same` and `judge` allow: an answer r, and what the lent slice holds afterwards.
+-- What the contracts of `check`, `read`, `write`, `same`, `judge` and the line reader allow: an answer r, and what the lent slice holds afterwards.
 use Prim.Native.Nat.{ℕ}
 use mathlib.Core.Path.{_≡_}
 use mathlib.Core.List.{List}
@@ -10,6 +10,7 @@ use Rattle.write.specs.Outcomes.{writeReply, writeText}
 use Rattle.law.specs.declared.Verdict.{Verdict}
 use Rattle.same.specs.Verdicts.{sameReply}
 use Rattle.judge.specs.Verdicts.{judgeReply}
+use Rattle.viewer.specs.Views.{replyAt, placesAfter}
 
 pub record Checks (file : List ℕ) (r : Reply) : Type 0 where
   pub answer : r ≡ checkReply file
@@ -28,3 +29,8 @@ pub record Compares (first second : List ℕ) (r : Verdict) : Type 0 where
 
 pub record Judges (board library : List ℕ) (r : Verdict) : Type 0 where
   pub answer : r ≡ judgeReply board library
+
+-- the line reader at a place, where the line has the number n: `stepOf` has this reply
+pub record Shows (file : List ℕ) (at n : ℕ) (old : List ℤ) (r : Reply) (new : List ℤ) : Type 0 where
+  pub answer : r ≡ replyAt file at n (length old)
+  pub left : new ≡ placesAfter file at n old

@@ -1,0 +1,9 @@
+pub mod Spots
+pub mod Fills
+pub mod LineRows
+pub mod FileRows
+pub mod OneRow
+pub mod ReaderPlaces
+pub mod LinePlaces
+pub mod Meant
+pub mod Examples

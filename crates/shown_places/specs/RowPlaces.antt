@@ -1,0 +1,62 @@
+-- The row of a record by the line that spells it, and the rows of lines: producing rules.
+use Prim.Native.Nat.{ℕ, _+_, _*_}
+use mathlib.Core.Path.{_≡_}
+use mathlib.Core.List.{List, [], _∷_, _++_}
+use lib.IntN.{ℤ, pos}
+use lib.ListN.{length, replicate}
+use Rattle.law.specs.Lines.{Free}
+use Rattle.law.specs.Values.{Value, number, word, text, Rec}
+use Rattle.law.specs.declared.Context.{Context}
+use Rattle.law.specs.Rows.{width}
+use Rattle.law.specs.RecordSpelling.{SpellsRecord}
+use Rattle.shown_places.specs.FieldPlaces.{Spot, SpelledAt, startAndLength}
+
+-- the columns of a value: a number itself, a word its place in its list, a text or a date the start and the length of its field
+abbrev pub columnsOf : Value → Spot → List ℤ
+columnsOf (number z) p = z ∷ []
+columnsOf (word n) p = pos n ∷ []
+columnsOf (text s) p = startAndLength p
+
+-- of each value, which its own field spells
+unfoldable pub columnsOfAll : List Value → List Spot → List ℤ
+columnsOfAll [] ps = []
+columnsOfAll (v ∷ vs) [] = []
+columnsOfAll (v ∷ vs) (p ∷ ps) = columnsOf v p ++ columnsOfAll vs ps
+
+-- the row of the record r, by its line l, which begins at b in the file: its kind, the columns of its values, and 0 in what is left.
+-- The last fields of the line spell the values, one each; a keyword or PROP stands before them
+pub record RowOf (b : ℕ) (l : List ℕ) (r : Rec) (row : List ℤ) : Type 0 where
+  pub front : List Spot
+  pub own : List Spot
+  pub left : ℕ
+  pub spelled : SpelledAt b (front ++ own) l
+  pub each : length own ≡ length (r .values)
+  pub is : row ≡ pos (r .kind) ∷ (columnsOfAll (r .values) own ++ replicate left (pos 0))
+  pub ten : length row ≡ width
+
+-- the rows of lines that spell these records, the first of which begins at b: a free line has none, and every other has its record's.
+-- A line is followed by byte 10 before the next begins
+pub data RowsAt (c : Context) : ℕ → List (List ℕ) → List Rec → List ℤ → Type 0 where
+  end : {b : ℕ} → RowsAt c b [] [] []
+  free : {b : ℕ} {l : List ℕ} {ls : List (List ℕ)} {rs : List Rec} {xs : List ℤ} → Free l → RowsAt c (b + length l + 1) ls rs xs → RowsAt c b (l ∷ ls) rs xs
+  line : {b : ℕ} {l : List ℕ} {ls : List (List ℕ)} {r : Rec} {rs : List Rec} {x xs : List ℤ}
+      → SpellsRecord c r l → RowOf b l r x → RowsAt c (b + length l + 1) ls rs xs → RowsAt c b (l ∷ ls) (r ∷ rs) (x ++ xs)
+
+-- the first byte of the line that stands behind these lines, of which each has byte 10 behind it
+unfoldable pub startAfter : List (List ℕ) → ℕ
+startAfter [] = 0
+startAfter (l ∷ ls) = length l + 1 + startAfter ls
+
+-- the row of the line l, behind the lines us: it is that of the record which l spells, and stands behind the rows of the records before it
+pub record LineRow (c : Context) (us : List (List ℕ)) (l : List ℕ) (rs : List Rec) (xs : List ℤ) : Type 0 where
+  pub before : List Rec
+  pub its : Rec
+  pub after : List Rec
+  pub above : List ℤ
+  pub row : List ℤ
+  pub below : List ℤ
+  pub records : rs ≡ before ++ (its ∷ after)
+  pub rows : xs ≡ above ++ (row ++ below)
+  pub as-many : length above ≡ width * length before
+  pub spells : SpellsRecord c its l
+  pub is : RowOf (startAfter us) l its row
