@@ -1,4 +1,4 @@
--- The contracts of the five operations, as the functions carry them, say of an outcome exactly what specs/Outcomes says, and ask nothing of a caller.
+-- The contracts of the five operations and of a call of the line reader, as the functions carry them, say of an outcome exactly what specs/Outcomes says, and ask nothing of a caller.
 use mathlib.Core.Logic.{_↔_}
 use contract.Lifetimes.{Lfts}
 use denote.Triple.Clauses.{AtExit}
@@ -14,7 +14,9 @@ use Rattle.same.proofs.same.Kinds as same
 use Rattle.same.proofs.same.Reads as same-says
 use Rattle.judge.proofs.whole.judge.Kinds as judge
 use Rattle.judge.proofs.whole.judge.Reads as judge-says
-use Rattle.demands.specs.Outcomes.{Checks, Reads, Writes, Compares, Judges}
+use Rattle.viewer.proofs.step_at.Kinds as step
+use Rattle.viewer.proofs.step_at.Reads as step-says
+use Rattle.demands.specs.Outcomes.{Checks, Reads, Writes, Compares, Judges, Shows}
 
 -- of the lifetimes, the arguments, the result and the arguments at exit; a slice's bytes or numbers are its `now`
 pub check-contract : (κs : Lfts 1) (a : Dens κs check.ps) (r : resT check.r κs .Denot) (s : AtExit (endedOf 1 check.ps check.r) κs)
@@ -37,6 +39,10 @@ pub judge-contract : (κs : Lfts 2) (a : Dens κs judge.ps) (r : resT judge.r κ
     → judge-says.Learnt κs a r s ↔ Judges (now (a .0)) (now (a .1 .0)) r
 judge-contract κs a r s = (λ e. record { answer = e }, λ c. c .answer)
 
+pub step-contract : (κs : Lfts 2) (a : Dens κs step.ps) (r : resT step.r κs .Denot) (s : AtExit (endedOf 2 step.ps step.r) κs)
+    → step-says.Learnt κs a r s ↔ Shows (now (a .0)) (a .1 .0) (a .1 .1 .0) (now (a .1 .1 .1 .0)) r (now (s .1 .1 .1 .0))
+step-contract κs a r s = (λ e. record { answer = e .0; left = e .1 }, λ c. (c .answer, c .left))
+
 -- "No caller has to check anything beforehand"
 pub nothing-asked :
     ((κs : Lfts 1) (a : Dens κs check.ps) → check-says.Asked κs a)
@@ -44,4 +50,5 @@ pub nothing-asked :
     × ((κs : Lfts 3) (a : Dens κs write.ps) → write-says.Asked κs a)
     × ((κs : Lfts 2) (a : Dens κs same.ps) → same-says.Asked κs a)
     × ((κs : Lfts 2) (a : Dens κs judge.ps) → judge-says.Asked κs a)
-nothing-asked = (λ κs a. tt, λ κs a. tt, λ κs a. tt, λ κs a. tt, λ κs a. tt)
+    × ((κs : Lfts 2) (a : Dens κs step.ps) → step-says.Asked κs a)
+nothing-asked = (λ κs a. tt, λ κs a. tt, λ κs a. tt, λ κs a. tt, λ κs a. tt, λ κs a. tt)

@@ -23,7 +23,8 @@ use Rattle.same.specs.Ignoring.{nothing}
 use Rattle.same.specs.SameLists.{sameFiles}
 use Rattle.same.specs.Verdicts.{foundSame, sameReply}
 use Rattle.same.proofs.VerdictLaws.{first-refused, second-refused}
-use Rattle.law.specs.Files.{FileSays}
+use Rattle.law.specs.Fits.{under}
+use Rattle.law.specs.Files.{titled, FileSays}
 use Rattle.shown_told.proofs.WholeFiles as files
 use Rattle.shown_told.proofs.Numbered as faults
 use Rattle.shown_read.proofs.Checked.{check-large, check-accepts, check-count, check-first, check-answers, check-only}
@@ -35,12 +36,16 @@ use Rattle.shown_write.proofs.RoundTrip as texts
 use Rattle.shown_same.proofs.Sameness as alike
 use Rattle.law.specs.Judging.{Judged}
 use Rattle.shown_judge.proofs.JudgedFiles as entries
-use Rattle.demands.specs.Outcomes.{Checks, Reads, Writes, Compares, Judges}
+use Rattle.shown_places.specs.RowPlaces.{RowsAt}
+use Rattle.viewer.specs.declared.Step.{Step}
+use Rattle.demands.specs.Outcomes.{Checks, Reads, Writes, Compares, Judges, Shows}
 use Rattle.law.specs.LineFaults.{FaultyAfter}
 use Rattle.law.specs.Given as given
 use Rattle.law.specs.Given.{Fails, Short, Answered, Written}
 use Rattle.demands.proofs.WriteAnswers.{write-answers, written-one, written-zero}
 use Rattle.demands.proofs.Answers.{answered-one, answered-line, answered-early, named-faulty, read-list, front-means, behind-kept}
+use Rattle.demands.proofs.Starts.{starts}
+use Rattle.demands.proofs.Viewing.{view-untouched}
 
 -- the parts of an answer
 abbrev numberIn : Reply → ℕ
@@ -58,30 +63,33 @@ two a b = omega arith
 pub every-file : {file : List ℕ} {r : Reply} → Checks file r ↔ Answered file r
 every-file {file} = (λ c. subst (Answered file) (sym (c .answer)) (check-answers file), λ a. record { answer = check-only file a })
 
--- "A refusal writes nothing into what was lent": reading, writing
+-- "A refusal writes nothing into what was lent": reading, writing, the line reader
 pub untouched :
     ((file : List ℕ) (old new : List ℤ) (r : Reply) → Reads file old r new → (r .number ≡ 0 → ⊥) → new ≡ old)
     × ((rows : List ℤ) (bytes old new : List ℕ) (r : Reply) → Writes rows bytes old r new → (r .number ≡ 0 → ⊥) → new ≡ old)
+    × ((file : List ℕ) (at n : ℕ) (old new : List ℤ) (s : Step) → Shows file at n old s new → (s .reply .number ≡ 0 → ⊥) → new ≡ old)
 untouched = (
   λ file old new r o h. o .left ∙ reading.untouched file old (λ z. h (ap numberIn (o .answer) ∙ z)),
   λ cs bytes old new r o h. o .left ∙ rows.untouched cs bytes old (λ z. h (ap numberIn (o .answer) ∙ z)),
+  λ file at n old new s o h. view-untouched o h,
 )
 
 -- Demand 2
 
--- "An accepted file gives exactly the records that IDF 3.0 gives its lines": what `read` leaves means the list that the file says, and the rest is as it was
+-- "An accepted file gives exactly the records that IDF 3.0 gives its lines": what `read` leaves means the list that the file says, line by line, each text by its own place in its own line; and the rest is as it was
 pub records : {file : List ℕ} {old new : List ℤ} {r : Reply} → Reads file old r new → r .number ≡ 0
     → (rs : List Rec)
-    × FileSays Idf3 rs file
+    × (s : FileSays Idf3 rs file)
     × (r ≡ reply 0 0 (length rs))
     × RowsMean file rs (take (width * length rs) new)
+    × RowsAt (under Idf3 (titled rs)) 0 (s .lines) rs (take (width * length rs) new)
     × (drop (width * length rs) new ≡ drop (width * length rs) old)
 records {file} {old} o z =
     let w = read-list file (length old) (sym (ap numberIn (o .answer)) ∙ z) in
     let h = w .0 in
     let s = w .1 .1 in
     let i = w .1 .2 in
-    (w .1 .0, s, o .answer ∙ reading.read-says file h s old i, rw (o .left) (front-means file h s old i), rw (o .left) (behind-kept file h s old i))
+    (w .1 .0, s, o .answer ∙ reading.read-says file h s old i, rw (o .left) (front-means file h s old i), starts o z (s .made) s, rw (o .left) (behind-kept file h s old i))
 
 -- rows mean one list at most
 pub rows-one : {file : List ℕ} {rs qs : List Rec} {xs : List ℤ} → RowsMean file rs xs → RowsMean file qs xs → rs ≡ qs

@@ -2,8 +2,9 @@ pub mod Contracts
 pub mod Outside
 pub mod Answers
 pub mod WriteAnswers
-pub mod Demands
 pub mod Starts
+pub mod Viewing
+pub mod Demands
 pub mod Numbers
 pub mod Examples
 pub mod PTable

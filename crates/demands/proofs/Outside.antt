@@ -11,7 +11,9 @@ use Rattle.write.specs.Outcomes.{writeReply}
 use Rattle.law.specs.declared.Verdict.{Verdict}
 use Rattle.same.specs.Verdicts.{sameReply}
 use Rattle.judge.specs.Verdicts.{judgeReply}
-use Rattle.quayladle.specs.Numbers.{ofOne, ofTwo}
+use Rattle.viewer.specs.declared.Step.{Step}
+use Rattle.viewer.specs.Views.{stepOf}
+use Rattle.quayladle.specs.Numbers.{ofOne, ofTwo, ofPlace}
 use Rattle.quayladle.proofs.quayladle_check.Kinds as check
 use Rattle.quayladle.proofs.quayladle_check.Reads as check-says
 use Rattle.quayladle.proofs.quayladle_read.Kinds as read
@@ -22,7 +24,9 @@ use Rattle.quayladle.proofs.quayladle_same.Kinds as same
 use Rattle.quayladle.proofs.quayladle_same.Reads as same-says
 use Rattle.quayladle.proofs.quayladle_judge.Kinds as judge
 use Rattle.quayladle.proofs.quayladle_judge.Reads as judge-says
-use Rattle.demands.specs.Outcomes.{Checks, Reads, Writes, Compares, Judges}
+use Rattle.quayladle.proofs.quayladle_fields.Kinds as fields
+use Rattle.quayladle.proofs.quayladle_fields.Reads as fields-says
+use Rattle.demands.specs.Outcomes.{Checks, Reads, Writes, Compares, Judges, Shows}
 
 pub outside-check : (κs : Lfts 2) (a : Dens κs check.ps) (r : resT check.r κs .Denot) (s : AtExit (endedOf 2 check.ps check.r) κs)
     → check-says.Learnt κs a r s
@@ -48,3 +52,10 @@ pub outside-judge : (κs : Lfts 3) (a : Dens κs judge.ps) (r : resT judge.r κs
     → judge-says.Learnt κs a r s
     → (v : Verdict) × Judges (now (a .0)) (now (a .1 .0)) v × (now (s .1 .1 .0) ≡ ofTwo v)
 outside-judge κs a r s e = (judgeReply (now (a .0)) (now (a .1 .0)), record { answer = refl }, e)
+
+-- behind `place`, where the next call goes on and the number of the line there
+pub outside-fields : (κs : Lfts 4) (a : Dens κs fields.ps) (r : resT fields.r κs .Denot) (s : AtExit (endedOf 4 fields.ps fields.r) κs)
+    → fields-says.Learnt κs a r s
+    → (q : Step) × Shows (now (a .0)) (a .1 .0) (a .1 .1 .0) (now (a .1 .1 .1 .0)) q (now (s .1 .1 .1 .0)) × (now (s .1 .1 .1 .1 .0) ≡ ofPlace q)
+    × (now (s .1 .1 .1 .1 .1 .0) ≡ ofOne (q .reply))
+outside-fields κs a r s e = (stepOf (now (a .0)) (a .1 .0) (a .1 .1 .0) (length (now (a .1 .1 .1 .0))), record { answer = refl; left = e .1 .1 }, e .1 .0, e .0)

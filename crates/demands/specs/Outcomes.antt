@@ -10,7 +10,8 @@ use Rattle.write.specs.Outcomes.{writeReply, writeText}
 use Rattle.law.specs.declared.Verdict.{Verdict}
 use Rattle.same.specs.Verdicts.{sameReply}
 use Rattle.judge.specs.Verdicts.{judgeReply}
-use Rattle.viewer.specs.Views.{replyAt, placesAfter}
+use Rattle.viewer.specs.declared.Step.{Step}
+use Rattle.viewer.specs.Views.{stepOf, placesAfter}
 
 pub record Checks (file : List ℕ) (r : Reply) : Type 0 where
   pub answer : r ≡ checkReply file
@@ -30,7 +31,7 @@ pub record Compares (first second : List ℕ) (r : Verdict) : Type 0 where
 pub record Judges (board library : List ℕ) (r : Verdict) : Type 0 where
   pub answer : r ≡ judgeReply board library
 
--- the line reader at a place, where the line has the number n: `stepOf` has this reply
-pub record Shows (file : List ℕ) (at n : ℕ) (old : List ℤ) (r : Reply) (new : List ℤ) : Type 0 where
-  pub answer : r ≡ replyAt file at n (length old)
+-- a reader at a place, where the line has the number n: its answer with the place and the line number after it
+pub record Shows (file : List ℕ) (at n : ℕ) (old : List ℤ) (s : Step) (new : List ℤ) : Type 0 where
+  pub answer : s ≡ stepOf file at n (length old)
   pub left : new ≡ placesAfter file at n old

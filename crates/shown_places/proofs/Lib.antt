@@ -4,6 +4,8 @@ pub mod LineRows
 pub mod FileRows
 pub mod OneRow
 pub mod ReaderPlaces
+pub mod ViewAnswers
 pub mod LinePlaces
+pub mod CalledReaders
 pub mod Meant
 pub mod Examples

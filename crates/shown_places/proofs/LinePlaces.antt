@@ -50,7 +50,7 @@ line-stands [] l ms (next {s = s} a f) = record { front = []; rest = 10 ∷ s; i
 line-stands (u ∷ []) l ms (next a f) = front-more u (line-stands [] l ms f)
 line-stands (u ∷ w ∷ us) l ms (next a f) = front-more u (line-stands (w ∷ us) l ms f)
 
-drop-line : (u s : List ℕ) (k : ℕ) → drop k s ≡ drop (length u + 1 + k) (u ++ (10 ∷ s))
+pub drop-line : (u s : List ℕ) (k : ℕ) → drop k s ≡ drop (length u + 1 + k) (u ++ (10 ∷ s))
 drop-line u s k =
     let n : length u + 1 + k ≡ length u + suc k = omega arith in
     sym (ap (λ (i : ℕ). drop i (u ++ (10 ∷ s))) n ∙ drop-append-add u (10 ∷ s) (suc k))

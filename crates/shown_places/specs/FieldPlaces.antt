@@ -1,11 +1,10 @@
--- The fields of a line with their places: the producing rules of cutting/FieldRules, with the place of each field's first byte.
+-- "A text is two numbers, its start and length in the file, quotes left off": the fields of a line as in Fields, each with the place of its
+-- first byte.
 use Prim.Native.Nat.{ℕ, _+_}
-use mathlib.Core.Path.{_≡_}
 use mathlib.Core.List.{List, [], _∷_, _++_}
 use mathlib.Core.Bool.{true, false}
 use lib.IntN.{ℤ, pos}
 use lib.ListN.{length}
-use Rattle.law.specs.Bytes.{begins}
 use Rattle.law.specs.Fields.{Field, field, Spells}
 
 -- a field, and the place of its first byte, quotes left off
@@ -37,8 +36,3 @@ startAndLength p = pos (p .at) ∷ pos (length (bytesOf (p .what))) ∷ []
 unfoldable pub numbersOf : List Spot → List ℤ
 numbersOf [] = []
 numbersOf (p ∷ ps) = startAndLength p ++ numbersOf ps
-
--- the fields that the line reader hands out of a line that begins at b: none of a comment
-pub data Handed (b : ℕ) (l : List ℕ) : List Spot → Type 0 where
-  comment : begins 35 l ≡ true → Handed b l []
-  fields : {ps : List Spot} → begins 35 l ≡ false → SpelledAt b ps l → Handed b l ps

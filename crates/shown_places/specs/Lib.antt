@@ -1,2 +1,3 @@
 pub mod FieldPlaces
 pub mod RowPlaces
+pub mod Viewing
