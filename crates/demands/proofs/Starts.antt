@@ -13,7 +13,7 @@ use Rattle.law.specs.Rows.{width}
 use Rattle.law.specs.declared.Reply.{Reply}
 use Rattle.read.specs.Replies.{rowsOf}
 use Rattle.law.specs.Files.{titled, FileSays}
-use Rattle.shown_read.proofs.WholeFiles as files
+use Rattle.shown_told.proofs.WholeFiles as files
 use Rattle.shown_write.proofs.RoundTrip as texts
 use Rattle.shown_places.specs.RowPlaces.{RowsAt, LineRow}
 use Rattle.shown_places.proofs.FileRows.{rows-at}

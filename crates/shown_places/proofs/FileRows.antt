@@ -31,12 +31,12 @@ use Rattle.walk.specs.declared.JudgedLine.{JudgedLine}
 use Rattle.walk.specs.declared.Walk.{Walk}
 use Rattle.walk.proofs.WalkLaws.{trace-end, trace-step}
 use Rattle.read.specs.Replies.{rowsIn, rowsOf}
-use Rattle.shown_read.specs.Told.{Said, nothing, says, wrong, lineSays, Told, ended, broken, afterNothing, afterRecord, goOn, toldFrom}
+use Rattle.shown_told.specs.Told.{Said, nothing, says, wrong, lineSays, Told, ended, broken, afterNothing, afterRecord, goOn, toldFrom}
 use Rattle.law.specs.Files.{titled, FileSays}
-use Rattle.shown_read.proofs.LineSound.{line-sound, line-nothing}
+use Rattle.shown_told.proofs.LineSound.{line-sound, line-nothing}
 use Rattle.shown_read.proofs.LineJoined.{Joined, line-joined}
 use Rattle.shown_read.proofs.LineUsed.{line-used}
-use Rattle.shown_read.proofs.WholeFiles.{accepted-exactly}
+use Rattle.shown_told.proofs.WholeFiles.{accepted-exactly}
 use Rattle.shown_places.specs.RowPlaces as rows
 use Rattle.shown_places.specs.RowPlaces.{RowOf, RowsAt}
 use Rattle.shown_places.proofs.LineRows.{Rowed, line-rowed}

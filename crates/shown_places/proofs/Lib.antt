@@ -1,3 +1,4 @@
+pub mod DerivedPlaces
 pub mod Spots
 pub mod Fills
 pub mod LineRows

@@ -40,7 +40,7 @@ use Rattle.rows.specs.Columns.{pointIn, typeInRow}
 use Rattle.walk.specs.Judging.{refusedBy, freeBy, movedRow, filledBy, ofKind, dataBy, judgedBy, judged}
 use Rattle.walk.specs.declared.Found.the-variants.{Row}
 use Rattle.walk.specs.declared.JudgedLine.{JudgedLine}
-use Rattle.shown_read.specs.Told.{Said, nothing, says, wrong, freeIn, saidOf, saidBy, saidAt, saidAs, lineSays}
+use Rattle.shown_told.specs.Told.{Said, nothing, says, wrong, freeIn, saidOf, saidBy, saidAt, saidAs, lineSays}
 use Rattle.shown_read.proofs.FieldTails.{From, from-start, from-behind, Listed, line-listed}
 use Rattle.shown_places.specs.FieldPlaces.{Spot, SpelledAt}
 use Rattle.shown_places.specs.RowPlaces.{columnsOfAll, RowOf}

@@ -23,7 +23,7 @@ use Rattle.line_rows.specs.Meaning.{Part}
 use Rattle.line_rows.proofs.MeaningLaws.{part-bytes, part-within}
 use Rattle.law.specs.RecordSpelling.{SpellsField, SpellsFields, SpellsLine, SpellsRecord, asText, asReference, asDate, asInteger, asNumber, asWord, none as noFields, more, withKeyword, withProp, asData, asLine}
 use Rattle.law.specs.Files.{titled, FileSays}
-use Rattle.shown_read.proofs.Fronts.{types-laid}
+use Rattle.shown_told.proofs.Fronts.{types-laid}
 use Rattle.shown_read.proofs.Checked.{check-rows}
 use Rattle.shown_places.specs.FieldPlaces.{Spot, spotOf, SpelledAt, end, space, last, next, bytesOf}
 use Rattle.shown_places.specs.RowPlaces.{columnsOf, columnsOfAll, RowOf, RowsAt}
