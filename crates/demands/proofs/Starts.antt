@@ -9,15 +9,17 @@ use Rattle.law.specs.Lines.{File, Free}
 use Rattle.law.specs.Values.{Rec}
 use Rattle.law.specs.Fits.{under}
 use Rattle.law.specs.declared.Rules.the-variants.{Idf3}
-use Rattle.law.specs.Rows.{width}
+use Rattle.law.specs.Rows.{width, RowsMean}
 use Rattle.law.specs.declared.Reply.{Reply}
+use Rattle.law.specs.declared.FileType.{FileType}
 use Rattle.read.specs.Replies.{rowsOf}
 use Rattle.law.specs.Files.{titled, FileSays}
 use Rattle.shown_told.proofs.WholeFiles as files
 use Rattle.shown_write.proofs.RoundTrip as texts
-use Rattle.shown_places.specs.RowPlaces.{RowsAt, LineRow}
+use Rattle.shown_places.specs.RowPlaces.{RowsAt, startAfter, LineRow}
 use Rattle.shown_places.proofs.FileRows.{rows-at}
 use Rattle.shown_places.proofs.OneRow as one
+use Rattle.shown_places.proofs.Meant.{rows-meant}
 use Rattle.shown_places.proofs.LinePlaces as places
 use Rattle.demands.specs.Outcomes.{Reads}
 use Rattle.demands.proofs.Answers.{read-list}
@@ -40,5 +42,9 @@ module _ {file : List ℕ} {old new : List ℤ} {r : Reply} (o : Reads file old 
 
 -- the row of one line, of those that are no comment and not blank
 pub starts-line : {file : List ℕ} {old new : List ℤ} {r : Reply} → Reads file old r new → r .number ≡ 0 → (us : List (List ℕ)) (l : List ℕ) (ms : List (List ℕ)) → File (us ++ (l ∷ ms)) file
-    → {rs : List Rec} → FileSays Idf3 rs file → (Free l → ⊥) → LineRow (under Idf3 (titled rs)) us l rs (take (width * length rs) new)
+    → {rs : List Rec} → FileSays Idf3 rs file → (Free l → ⊥) → LineRow (under Idf3 (titled rs)) (startAfter us) l rs (take (width * length rs) new)
 starts-line o z us l ms m s h = places.line-row us l ms h (starts o z m s)
+
+-- rows by their places mean their list: the places say no less than `RowsMean`
+pub starts-mean : {t : FileType} {file : List ℕ} {ls : List (List ℕ)} {rs : List Rec} {xs : List ℤ} → File ls file → RowsAt (under Idf3 t) 0 ls rs xs → RowsMean file rs xs
+starts-mean m p = rows-meant m p

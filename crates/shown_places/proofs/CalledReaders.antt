@@ -5,7 +5,6 @@ use mathlib.Core.List.{List, [], _∷_, _++_, append-assoc}
 use mathlib.Core.Bool.{true, false≢true}
 use native.Mathlib.Omega.{arith}
 use borrow.Author.Tests.{lt-ltb, le-ltb}
-use lib.IntN.{ℤ}
 use lib.ListN.{length, drop, length-append, length-drop}
 use lib.Seq.{drop-drop}
 use Rattle.basics.proofs.Lists.{at-end}
@@ -14,7 +13,8 @@ use Rattle.law.specs.Answers.{limit}
 use Rattle.text.proofs.LineSpelling.{lines-unique}
 use Rattle.viewer.specs.Views.{movesOn}
 use Rattle.shown_places.specs.RowPlaces.{startAfter}
-use Rattle.shown_places.specs.Viewing.{placeBehind, numberBehind, Shown, too-large, no-line, not-permitted, no-fields, too-short, whole, MovesOn, after-0, after-3, after-4, Called, opened, moved, stayed}
+use Rattle.shown_places.specs.Viewing.{placeBehind, numberBehind, too-large, no-line, not-permitted, no-fields, too-short, whole, MovesOn, after-0, after-3, after-4, Called, opened, moved, stayed}
+use Rattle.shown_places.proofs.ReaderPlaces.{none-long}
 use Rattle.shown_places.proofs.LinePlaces.{drop-line}
 
 -- The place behind a line
@@ -23,11 +23,6 @@ record Behind (file : List ℕ) (at : ℕ) (line : List ℕ) (more : List (List 
   rest : File more (drop (placeBehind file at line) file)
   on : (l : List ℕ) (ms : List (List ℕ)) → more ≡ l ∷ ms → placeBehind file at line ≡ at + length line + 1
   out : more ≡ [] → placeBehind file at line ≡ length file
-
-none-long : {ls : List (List ℕ)} {s : List ℕ} → ls ≡ [] → File ls s → length s ≡ 0
-none-long e none = refl
-none-long e (last a) = let z : _≡_ {A = ℕ} 0 1 = cc in absurd (omega arith)
-none-long e (next a f) = let z : _≡_ {A = ℕ} 0 1 = cc in absurd (omega arith)
 
 behind : (file : List ℕ) (at : ℕ) {line s : List ℕ} {more : List (List ℕ)} → drop at file ≡ s → File (line ∷ more) s → Behind file at line more
 behind file at e (last {b = b} {l = l} a) =

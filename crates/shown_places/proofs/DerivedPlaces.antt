@@ -1,6 +1,6 @@
 -- Places as the rules give them, derived step by step: of quoted fields, of rows, and of the line reader; an edit of a rule is refused here.
-use Prim.Native.Nat.{ℕ, suc, _+_, _<_}
-use mathlib.Core.Path.{_≡_, refl, sym, ap, _∙_}
+use Prim.Native.Nat.{ℕ, _+_, _<_}
+use mathlib.Core.Path.{_≡_, refl, ap}
 use mathlib.Core.List.{List, [], _∷_, _++_}
 use mathlib.Core.Bool.{true, false, false≢true}
 use native.Mathlib.Omega.{arith}
@@ -22,7 +22,7 @@ use Rattle.law.specs.RecordSpelling.{SpellsRecord, asText, withProp, asLine}
 use Rattle.law.specs.Answers.{reply}
 use Rattle.law.specs.declared.Rules.the-variants.{Idf3}
 use Rattle.law.specs.declared.FileType.the-variants.{Library}
-use Rattle.shown_places.specs.FieldPlaces.{Spot, SpelledAt, end, space, last, next, numbersOf}
+use Rattle.shown_places.specs.FieldPlaces.{SpelledAt, end, space, last, next, numbersOf}
 use Rattle.shown_places.specs.RowPlaces as rows
 use Rattle.shown_places.specs.RowPlaces.{columnsOfAll, RowOf, RowsAt}
 use Rattle.shown_places.specs.Viewing.{comment, fields, Shown, no-line, not-permitted, no-fields, too-short, whole, after-0, after-3, after-4, MovesOn, Called, opened, moved, stayed}

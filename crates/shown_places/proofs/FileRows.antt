@@ -21,7 +21,7 @@ use Rattle.law.specs.declared.Context.{Context}
 use Rattle.law.specs.declared.Rules.the-variants.{Idf3}
 use Rattle.line_rows.proofs.MeaningLaws.{part-cut}
 use Rattle.law.specs.Records.{Named}
-use Rattle.order.specs.Automaton.{start, repeats, noted}
+use Rattle.order.specs.Automaton.{repeats, noted}
 use Rattle.order.specs.declared.State.{State}
 use Rattle.law.specs.LineSpelling as spell
 use Rattle.law.specs.LineSpelling.{Where, outside, SpellsLines}

@@ -44,7 +44,7 @@ use Rattle.shown_told.specs.Told.{Said, nothing, says, wrong, freeIn, saidOf, s
 use Rattle.shown_read.proofs.FieldTails.{From, from-start, from-behind, Listed, line-listed}
 use Rattle.shown_places.specs.FieldPlaces.{Spot, SpelledAt}
 use Rattle.shown_places.specs.RowPlaces.{columnsOfAll, RowOf}
-use Rattle.shown_places.proofs.Spots.{fieldIn, placed, places-found, spotsBy, spotsIn, spots-in}
+use Rattle.shown_places.proofs.Spots.{fieldIn, map-many, placed, places-found, spotsBy, spotsIn, spots-in}
 use Rattle.shown_places.proofs.Fills.{row-fills}
 
 -- the fields gs that a line has from the place m on, with their places and with what stands before them
@@ -87,13 +87,9 @@ own-behind b s f fs e =
         }
     go Broken i h ps sp t = absurd (none-some h)
 
-fields-many : {c : Context} {ts : List FieldType} {vs : List Value} {fs : List Field} → SpellsFields c ts vs fs → length fs ≡ length vs
+pub fields-many : {c : Context} {ts : List FieldType} {vs : List Value} {fs : List Field} → SpellsFields c ts vs fs → length fs ≡ length vs
 fields-many noFields = refl
 fields-many (more x xs) = ap suc (fields-many xs)
-
-map-many : (ps : List Spot) → length (map fieldIn ps) ≡ length ps
-map-many [] = refl
-map-many (p ∷ ps) = ap suc (map-many ps)
 
 -- a row that was filled from such fields
 row-of : (c : Context) (b : ℕ) (s : List ℕ) (k m : ℕ) (fs : List Field) (vs : List Value) → Own b s m fs → From s m fs → readFields c (typesOf (c .rules) k) fs ≡ good vs

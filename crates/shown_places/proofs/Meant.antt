@@ -1,13 +1,14 @@
--- A row by its line means the values of its record: what was believed of rows before follows.
-use Prim.Native.Nat.{ℕ, suc, _+_, _≤_}
+-- A row by its line means the values of its record: that rows mean the list of their file follows from the places.
+use Prim.Native.Nat.{ℕ, _+_, _≤_}
 use mathlib.Core.Path.{_≡_, refl, sym, ap, subst, _∙_}
-use mathlib.Core.List.{List, [], _∷_, _++_, map, append-assoc}
+use mathlib.Core.List.{List, [], _∷_, _++_, map, append-assoc, append-nil}
 use mathlib.Core.Bool.{false}
 use native.Mathlib.Omega.{arith}
 use lib.IntN.{ℤ, pos}
 use lib.ListN.{length, take, drop, replicate, length-append, length-replicate}
 use lib.Seq.{take-all, take-append-seam}
 use Rattle.law.specs.Fields.{Field, field, Spells, Spelled, bare, quoted}
+use Rattle.law.specs.Lines as made
 use Rattle.law.specs.Lines.{File}
 use Rattle.text_fields.proofs.FieldSpelling.{fields-unique}
 use Rattle.law.specs.Values.{Value, text, Rec}
@@ -15,6 +16,7 @@ use Rattle.law.specs.Layouts.{Front, typesOf}
 use Rattle.law.specs.Fits.{under, meaning}
 use Rattle.law.specs.declared.Rules.the-variants.{Idf3}
 use Rattle.law.specs.declared.Context.{Context}
+use Rattle.law.specs.declared.FileType.{FileType}
 use Rattle.law.specs.declared.FieldType.{FieldType}
 use Rattle.law.specs.declared.FieldType.the-variants.{Text as T, Reference as Ref}
 use Rattle.law.specs.Rows as column
@@ -22,19 +24,13 @@ use Rattle.law.specs.Rows.{Means, aNumber, aWord, aDate, aText, Holds, RowsMean
 use Rattle.line_rows.specs.Meaning.{Part}
 use Rattle.line_rows.proofs.MeaningLaws.{part-bytes, part-within}
 use Rattle.law.specs.RecordSpelling.{SpellsField, SpellsFields, SpellsLine, SpellsRecord, asText, asReference, asDate, asInteger, asNumber, asWord, none as noFields, more, withKeyword, withProp, asData, asLine}
-use Rattle.law.specs.Files.{titled, FileSays}
 use Rattle.shown_told.proofs.Fronts.{types-laid}
-use Rattle.shown_read.proofs.Checked.{check-rows}
 use Rattle.shown_places.specs.FieldPlaces.{Spot, spotOf, SpelledAt, end, space, last, next, bytesOf}
+use Rattle.shown_places.specs.RowPlaces as rows
 use Rattle.shown_places.specs.RowPlaces.{columnsOf, columnsOfAll, RowOf, RowsAt}
-use Rattle.shown_places.proofs.Spots.{fieldIn, erased}
-use Rattle.shown_places.proofs.FileRows.{rows-at}
-use Rattle.shown_places.proofs.OneRow.{rows-one}
-
--- The rows of a file
-
-pub rows-meant : {file : List ℕ} {rs : List Rec} {ls : List (List ℕ)} {xs : List ℤ} → FileSays Idf3 rs file → File ls file → RowsAt (under Idf3 (titled rs)) 0 ls rs xs → RowsMean file rs xs
-rows-meant {file} {rs} s m p = subst (RowsMean file rs) (rows-one (rows-at file s m) p) (check-rows file s)
+use Rattle.shown_places.proofs.Spots.{fieldIn, map-many, erased}
+use Rattle.shown_places.proofs.LineRows.{fields-many}
+use Rattle.shown_places.proofs.OneRow.{ends-one}
 
 -- One row
 
@@ -110,26 +106,12 @@ line-fields (withKeyword {w = w} {fs = fs} m r p a) = record { fore = field fals
 line-fields (withProp {p = w} {fs = fs} h r p a) = record { fore = field false w ∷ []; own = fs; spelled = p; values = r }
 line-fields (asData {fs = fs} d h r p a) = record { fore = []; own = fs; spelled = p; values = r }
 
-fields-many : {c : Context} {ts : List FieldType} {vs : List Value} {fs : List Field} → SpellsFields c ts vs fs → length fs ≡ length vs
-fields-many noFields = refl
-fields-many (more x xs) = ap suc (fields-many xs)
-
-map-many : (ps : List Spot) → length (map fieldIn ps) ≡ length ps
-map-many [] = refl
-map-many (p ∷ ps) = ap suc (map-many ps)
-
 map-both : (ps qs : List Spot) → map fieldIn (ps ++ qs) ≡ map fieldIn ps ++ map fieldIn qs
 map-both [] qs = refl
 map-both (p ∷ ps) qs = ap (λ (u : List Field). p .what ∷ u) (map-both ps qs)
 
-ends-one : (es bs cs ds : List Field) → length bs ≡ length ds → es ++ bs ≡ cs ++ ds → bs ≡ ds
-ends-one [] bs [] ds h e = e
-ends-one [] bs (c ∷ cs) ds h e = absurd (omega (arith, h, ap length e, length-append cs ds))
-ends-one (a ∷ es) bs [] ds h e = absurd (omega (arith, h, ap length e, length-append es bs))
-ends-one (a ∷ es) bs (c ∷ cs) ds h e = ends-one es bs cs ds h (cc)
-
 -- the row of a record by a line that stands in the file and spells the record holds its values
-pub row-holds : {c : Context} {file : List ℕ} {b : ℕ} {l : List ℕ} {r : Rec} {x : List ℤ} → SpellsRecord c r l → Part file b l → RowOf b l r x → Holds file (r .kind) (typesOf (c .rules) (r .kind)) x (r .values)
+row-holds : {c : Context} {file : List ℕ} {b : ℕ} {l : List ℕ} {r : Rec} {x : List ℤ} → SpellsRecord c r l → Part file b l → RowOf b l r x → Holds file (r .kind) (typesOf (c .rules) (r .kind)) x (r .values)
 row-holds {c} {file} {b} {l} {r} {x} (asLine {l = y} k s) p q =
     let f = line-fields s in
     let n : length (map fieldIn (q .own)) ≡ length (f .own) = omega (arith, map-many (q .own), q .each, fields-many (f .values)) in
@@ -143,3 +125,16 @@ row-holds {c} {file} {b} {l} {r} {x} (asLine {l = y} k s) p q =
       ten = omega (arith, q .ten, ap length (q .is), length-append (columnsOfAll (r .values) (q .own)) (replicate (q .left) (pos 0)), length-replicate (q .left) (pos 0));
       means = rw (types-laid (c .rules) (r .kind) y k) m;
     }
+
+-- The rows of lines that stand in the file from b on
+
+rows-hold : {t : FileType} {file : List ℕ} {b : ℕ} {ls : List (List ℕ)} {s : List ℕ} {rs : List Rec} {xs : List ℤ} → File ls s → Part file b s → RowsAt (under Idf3 t) b ls rs xs → RowsMean file rs xs
+rows-hold made.none p rows.end = column.none
+rows-hold (made.last a) p (rows.free f rows.end) = column.none
+rows-hold (made.last a) p (rows.line h x rows.end) = column.row (row-holds h p x) column.none
+rows-hold (made.next {l = l} {s = s} a m) p (rows.free f q) = rows-hold m (part-behind (10 ∷ []) s (part-behind l (10 ∷ s) p)) q
+rows-hold (made.next {l = l} {s = s} a m) p (rows.line h x q) = column.row (row-holds h (part-front l (10 ∷ s) p) x) (rows-hold m (part-behind (10 ∷ []) s (part-behind l (10 ∷ s) p)) q)
+
+-- of all lines of a file
+pub rows-meant : {t : FileType} {file : List ℕ} {ls : List (List ℕ)} {rs : List Rec} {xs : List ℤ} → File ls file → RowsAt (under Idf3 t) 0 ls rs xs → RowsMean file rs xs
+rows-meant {file = file} m p = rows-hold m (record { front = []; rest = []; is = sym (append-nil file); at = refl }) p

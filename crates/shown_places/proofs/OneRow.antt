@@ -13,7 +13,7 @@ use Rattle.shown_places.specs.RowPlaces.{columnsOfAll, RowOf, RowsAt, en
 use Rattle.shown_places.proofs.Spots.{places-unique}
 
 -- two ends of one length of a list are the same
-ends-one : (es bs cs ds : List Spot) → length bs ≡ length ds → es ++ bs ≡ cs ++ ds → bs ≡ ds
+pub ends-one : {A : Type 0} (es bs cs ds : List A) → length bs ≡ length ds → es ++ bs ≡ cs ++ ds → bs ≡ ds
 ends-one [] bs [] ds h e = e
 ends-one [] bs (c ∷ cs) ds h e = absurd (omega (arith, h, ap length e, length-append cs ds))
 ends-one (a ∷ es) bs [] ds h e = absurd (omega (arith, h, ap length e, length-append es bs))

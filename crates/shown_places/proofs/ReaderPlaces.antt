@@ -10,7 +10,7 @@ use lib.IntN.{ℤ}
 use lib.ListN.{length, take, drop, length-drop, length-append}
 use lib.Seq.{length-take-le}
 use Rattle.law.specs.Bytes.{begins}
-use Rattle.law.specs.Lines.{File, last, next}
+use Rattle.law.specs.Lines.{File, none, last, next}
 use Rattle.text.specs.Lines.{endLen, contentLen, lineEnd}
 use Rattle.text.proofs.LineLaws.{content-le, lines-first}
 use Rattle.text.proofs.LineSpelling.{lines-complete}
@@ -45,6 +45,12 @@ unfolding placesOf
 places-are {b} {ps} {s} p = numbers-in (suc (length s)) b s ∙ ap numbersOf (spots-in p (suc (length s)) (omega arith))
 
 -- The line at a place
+
+-- no line, no byte
+pub none-long : {ls : List (List ℕ)} {s : List ℕ} → ls ≡ [] → File ls s → length s ≡ 0
+none-long e none = refl
+none-long e (last a) = let z : _≡_ {A = ℕ} 0 1 = cc in absurd (omega arith)
+none-long e (next a f) = let z : _≡_ {A = ℕ} 0 1 = cc in absurd (omega arith)
 
 file-some : {l : List ℕ} {ls : List (List ℕ)} {s : List ℕ} → File (l ∷ ls) s → 0 < length s
 file-some (last a) = omega arith

@@ -25,6 +25,10 @@ use Rattle.shown_places.specs.FieldPlaces.{Spot, spotOf, SpelledAt, end,
 abbrev pub fieldIn : Spot → Field
 fieldIn p = p .what
 
+pub map-many : (ps : List Spot) → length (map fieldIn ps) ≡ length ps
+map-many [] = refl
+map-many (p ∷ ps) = ap suc (map-many ps)
+
 spot-what : (b : ℕ) (f : Field) → fieldIn (spotOf b f) ≡ f
 spot-what b (field true s) = refl
 spot-what b (field false s) = refl

@@ -1,7 +1,7 @@
 -- What a call of the line reader answers, and what it leaves, is what the rules show; and they show one answer.
-use Prim.Native.Nat.{ℕ, suc, _+_, _*_, _≤_, _<_}
+use Prim.Native.Nat.{ℕ, _*_, _≤_, _<_}
 use mathlib.Core.Path.{_≡_, refl, sym, ap, _∙_}
-use mathlib.Core.List.{List, [], _∷_, map}
+use mathlib.Core.List.{List, [], _∷_}
 use mathlib.Core.Option.{Option, none, some}
 use mathlib.Core.Bool.{Bool, true, false, cond, false≢true}
 use native.Mathlib.Decide.{decLt}
@@ -14,8 +14,7 @@ use Rattle.basics.proofs.Bools.{none-some}
 use Rattle.basics.proofs.Lists.{all-sound, all-complete}
 use Rattle.law.specs.Bytes.{permitted, allOf, begins, All}
 use Rattle.law.specs.Fields as rules
-use Rattle.law.specs.Fields.{Field, Spelled}
-use Rattle.law.specs.Lines as lines
+use Rattle.law.specs.Fields.{Field}
 use Rattle.law.specs.Lines.{File}
 use Rattle.law.specs.Answers.{limit, reply, over}
 use Rattle.law.specs.declared.Reply.{Reply}
@@ -24,19 +23,11 @@ use Rattle.text.proofs.LineSpelling.{lines-sound}
 use Rattle.text_fields.specs.Fields.{fieldsOf, countOf}
 use Rattle.text_fields.proofs.FieldSpelling.{fields-sound, fields-complete, fields-counted}
 use Rattle.viewer.specs.Views.{lineAt, nextAt, seenOf, lineReply, replyAt, movesOn, stepBy, stepOf, placesOf, placesAfter}
-use Rattle.viewer.specs.declared.Step.{Step}
 use Rattle.shown_places.specs.FieldPlaces as at-places
-use Rattle.shown_places.specs.FieldPlaces.{Spot, SpelledAt, numbersOf}
-use Rattle.shown_places.specs.Viewing.{Handed, comment, fields, placeBehind, numberBehind, Shown, too-large, no-line, not-permitted, no-fields, too-short, whole}
-use Rattle.shown_places.proofs.Spots.{fieldIn, erased, places-found}
-use Rattle.shown_places.proofs.ReaderPlaces.{places-are, some-left, looked, next-behind}
-
-map-many : (ps : List Spot) → length (map fieldIn ps) ≡ length ps
-map-many [] = refl
-map-many (p ∷ ps) = ap suc (map-many ps)
-
-none-long : {s : List ℕ} → File [] s → length s ≡ 0
-none-long lines.none = refl
+use Rattle.shown_places.specs.FieldPlaces.{Spot, numbersOf}
+use Rattle.shown_places.specs.Viewing.{Handed, comment, fields, numberBehind, Shown, too-large, no-line, not-permitted, no-fields, too-short, whole}
+use Rattle.shown_places.proofs.Spots.{map-many, erased, places-found}
+use Rattle.shown_places.proofs.ReaderPlaces.{none-long, places-are, some-left, looked, next-behind}
 
 module _ (file : List ℕ) (at n : ℕ) (old : List ℤ) where
   -- the answer of a call, where the reader stands then, and what the slice holds
@@ -92,7 +83,7 @@ module _ (file : List ℕ) (at n : ℕ) (old : List ℤ) where
   -- whatever the rules show is given
   pub shown-given : {r : Reply} {next m : ℕ} {new : List ℤ} → Shown file at n old r next m new → Gives r next m new
   shown-given (too-large h) = stays (large h) refl refl
-  shown-given (no-line h f) = stays (ended h (omega (arith, none-long f, length-drop at file))) refl refl
+  shown-given (no-line h f) = stays (ended h (omega (arith, none-long refl f, length-drop at file))) refl refl
   shown-given (not-permitted {line = line} h f b p) =
       moves (here h (some-left file at f) ∙ forbidden f b (go (allOf permitted line) refl)) refl refl (next-behind file at f)
     where

@@ -1,4 +1,5 @@
--- The row of a record by the line that spells it, and the rows of lines: producing rules.
+-- "Each keyword or data line gives one row": the row of a record by the line that spells it, with its texts where they stand, and the rows of
+-- the lines of a file.
 use Prim.Native.Nat.{ℕ, _+_, _*_}
 use mathlib.Core.Path.{_≡_}
 use mathlib.Core.List.{List, [], _∷_, _++_}
@@ -47,8 +48,8 @@ unfoldable pub startAfter : List (List ℕ) → ℕ
 startAfter [] = 0
 startAfter (l ∷ ls) = length l + 1 + startAfter ls
 
--- the row of the line l, behind the lines us: it is that of the record which l spells, and stands behind the rows of the records before it
-pub record LineRow (c : Context) (us : List (List ℕ)) (l : List ℕ) (rs : List Rec) (xs : List ℤ) : Type 0 where
+-- the row of the line l, which begins at b: it is that of the record which l spells, and stands behind the rows of the records before it
+pub record LineRow (c : Context) (b : ℕ) (l : List ℕ) (rs : List Rec) (xs : List ℤ) : Type 0 where
   pub before : List Rec
   pub its : Rec
   pub after : List Rec
@@ -59,4 +60,4 @@ pub record LineRow (c : Context) (us : List (List ℕ)) (l : List ℕ) (rs : Lis
   pub rows : xs ≡ above ++ (row ++ below)
   pub as-many : length above ≡ width * length before
   pub spells : SpellsRecord c its l
-  pub is : RowOf (startAfter us) l its row
+  pub is : RowOf b l its row
