@@ -36,7 +36,7 @@ use Rattle.shown_write.proofs.RoundTrip as texts
 use Rattle.shown_same.proofs.Sameness as alike
 use Rattle.law.specs.Judging.{Judged}
 use Rattle.shown_judge.proofs.JudgedFiles as entries
-use Rattle.shown_places.specs.RowPlaces.{RowsAt}
+use Rattle.law.specs.RowPlaces.{RowsAt}
 use Rattle.viewer.specs.declared.Step.{Step}
 use Rattle.demands.specs.Outcomes.{Checks, Reads, Writes, Compares, Judges, Shows}
 use Rattle.law.specs.LineFaults.{FaultyAfter}

@@ -16,7 +16,7 @@ use Rattle.read.specs.Replies.{rowsOf}
 use Rattle.law.specs.Files.{titled, FileSays}
 use Rattle.shown_told.proofs.WholeFiles as files
 use Rattle.shown_write.proofs.RoundTrip as texts
-use Rattle.shown_places.specs.RowPlaces.{RowsAt, startAfter, LineRow}
+use Rattle.law.specs.RowPlaces.{RowsAt, startAfter, LineRow}
 use Rattle.shown_places.proofs.FileRows.{rows-at}
 use Rattle.shown_places.proofs.OneRow as one
 use Rattle.shown_places.proofs.Meant.{rows-meant}

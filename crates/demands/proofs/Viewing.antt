@@ -1,6 +1,7 @@
 -- The line reader: what each of its answers says of the next line, where it stands after a call, and where every start that it leaves stands, by the rules for producing files.
 use Prim.Native.Nat.{ℕ, _+_, _≤_}
 use mathlib.Core.Path.{_≡_, refl, sym, ap, subst, _∙_}
+use mathlib.Core.Logic.{_↔_}
 use mathlib.Core.List.{List, [], _∷_, _++_}
 use native.Mathlib.Omega.{arith}
 use denote.Ref.{now}
@@ -14,22 +15,25 @@ use Rattle.law.specs.declared.Reply.{Reply}
 use Rattle.viewer.specs.declared.Reader.{Reader}
 use Rattle.viewer.specs.declared.Step.{Step}
 use Rattle.viewer.specs.Readers.{stepHere, placesHere}
-use Rattle.shown_places.specs.FieldPlaces.{Spot, numbersOf}
-use Rattle.shown_places.specs.RowPlaces.{startAfter}
-use Rattle.shown_places.specs.Viewing.{Handed, Shown, too-large, no-line, not-permitted, no-fields, too-short, whole, Called}
+use Rattle.law.specs.FieldPlaces.{Spot, numbersOf}
+use Rattle.law.specs.RowPlaces.{startAfter}
+use Rattle.law.specs.Viewing.{Handed, Shown, too-large, no-line, not-permitted, no-fields, too-short, whole, Called}
 use Rattle.shown_places.proofs.ViewAnswers.{shown-given, some-view}
 use Rattle.shown_places.proofs.LinePlaces.{rest-made}
 use Rattle.shown_places.proofs.CalledReaders as readers
 use Rattle.demands.specs.Outcomes.{Shows}
 
--- every call answers as the rules show: 1, 13, 3, 4, 2, 0, in this order
-pub every-call : {file : List ℕ} {at n : ℕ} {old new : List ℤ} {s : Step} → Shows file at n old s new → Shown file at n old (s .reply) (s .at) (s .line) new
-every-call {file} {at} {n} {old} o =
-    let w = some-view file at n old in
-    let g = shown-given file at n old (w .is) in
-    rw (o .answer, o .left, g .step, g .left) (w .is)
+-- every call answers as the rules show, 1, 13, 3, 4, 2, 0 in this order, and no other answer is shown
+pub every-call : {file : List ℕ} {at n : ℕ} {old new : List ℤ} {s : Step} → Shows file at n old s new ↔ Shown file at n old (s .reply) (s .at) (s .line) new
+every-call {file} {at} {n} {old} = (shown, λ w. let g = shown-given file at n old w in record { answer = sym (g .step); left = sym (g .left) })
+  where
+    shown : {new : List ℤ} {s : Step} → Shows file at n old s new → Shown file at n old (s .reply) (s .at) (s .line) new
+    shown o =
+        let w = some-view file at n old in
+        let g = shown-given file at n old (w .is) in
+        rw (o .answer, o .left, g .step, g .left) (w .is)
 
--- and they show one answer
+-- so they show one answer
 pub one-view : {file : List ℕ} {at n next place m k : ℕ} {old new other : List ℤ} {r q : Reply} → Shown file at n old r next m new → Shown file at n old q place k other
     → (r ≡ q) × (next ≡ place) × (m ≡ k) × (new ≡ other)
 one-view {file} {at} {n} {old = old} a b =
@@ -88,13 +92,13 @@ module _ {file : List ℕ} {at n : ℕ} where
     no-line-left h m c =
         let w = called-out m c in
         let f = none-at file at (omega (arith, w .0)) in
-        one-view (every-call o) (no-line h f) .0 ∙ rw (w .1)
+        one-view (every-call .0 o) (no-line h f) .0 ∙ rw (w .1)
 
     -- a call that answers 0 leaves start and length of each field of the line, and the rest as it was
     pub fields-of-line : (us : List (List ℕ)) (line : List ℕ) (more : List (List ℕ)) → File (us ++ (line ∷ more)) file → Called file (length us) at n → s .reply .number ≡ 0
         → (ps : List Spot) × Handed (startAfter us) line ps × (s .reply ≡ reply 0 0 (length ps)) × (new ≡ over (numbersOf ps) old)
-    fields-of-line us line more m c z = let e = called us line more m c .0 in rw (sym e) (zero-shows (every-call o) z (rw (sym e) at (rest-made us line more m)))
+    fields-of-line us line more m c z = let e = called us line more m c .0 in rw (sym e) (zero-shows (every-call .0 o) z (rw (sym e) at (rest-made us line more m)))
 
 -- on every answer but 0 the slice is as it was
 pub view-untouched : {file : List ℕ} {at n : ℕ} {old new : List ℤ} {s : Step} → Shows file at n old s new → (s .reply .number ≡ 0 → ⊥) → new ≡ old
-view-untouched o h = kept (every-call o) h
+view-untouched o h = kept (every-call .0 o) h

@@ -3,3 +3,4 @@ pub mod Computed
 pub mod Derived
 pub mod Faulted
 pub mod LargestLaws
+pub mod DerivedPlaces

@@ -22,8 +22,11 @@ pub mod Files
 pub mod FieldFaults
 pub mod LineFaults
 pub mod Rows
+pub mod FieldPlaces
+pub mod RowPlaces
 pub mod Printing
 pub mod Canonical
 pub mod Answers
 pub mod Judging
 pub mod Given
+pub mod Viewing

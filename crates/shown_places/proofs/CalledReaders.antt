@@ -12,8 +12,8 @@ use Rattle.law.specs.Lines.{File, none, last, next}
 use Rattle.law.specs.Answers.{limit}
 use Rattle.text.proofs.LineSpelling.{lines-unique}
 use Rattle.viewer.specs.Views.{movesOn}
-use Rattle.shown_places.specs.RowPlaces.{startAfter}
-use Rattle.shown_places.specs.Viewing.{placeBehind, numberBehind, too-large, no-line, not-permitted, no-fields, too-short, whole, MovesOn, after-0, after-3, after-4, Called, opened, moved, stayed}
+use Rattle.law.specs.RowPlaces.{startAfter}
+use Rattle.law.specs.Viewing.{placeBehind, numberBehind, too-large, no-line, not-permitted, no-fields, too-short, whole, MovesOn, after-0, after-3, after-4, Called, opened, moved, stayed}
 use Rattle.shown_places.proofs.ReaderPlaces.{none-long}
 use Rattle.shown_places.proofs.LinePlaces.{drop-line}
 

@@ -9,8 +9,8 @@ use Rattle.law.specs.Fits.{meaning}
 use Rattle.law.specs.declared.FieldType.the-variants.{Text as T}
 use Rattle.law.specs.Rows as column
 use Rattle.law.specs.Rows.{Holds, aText}
-use Rattle.shown_places.specs.RowPlaces.{RowOf}
-use Rattle.shown_places.proofs.DerivedPlaces.{property, its, rowFrom, its-row}
+use Rattle.law.specs.RowPlaces.{RowOf}
+use Rattle.law.proofs.DerivedPlaces.{property, its, rowFrom, its-row}
 use Rattle.shown_places.proofs.OneRow.{row-one}
 
 -- the values of PROP A A are meant by a row in which the second text has the place of the first

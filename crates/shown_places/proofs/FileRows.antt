@@ -37,8 +37,8 @@ use Rattle.shown_told.proofs.LineSound.{line-sound, line-nothing}
 use Rattle.shown_read.proofs.LineJoined.{Joined, line-joined}
 use Rattle.shown_read.proofs.LineUsed.{line-used}
 use Rattle.shown_told.proofs.WholeFiles.{accepted-exactly}
-use Rattle.shown_places.specs.RowPlaces as rows
-use Rattle.shown_places.specs.RowPlaces.{RowOf, RowsAt}
+use Rattle.law.specs.RowPlaces as rows
+use Rattle.law.specs.RowPlaces.{RowOf, RowsAt}
 use Rattle.shown_places.proofs.LineRows.{Rowed, line-rowed}
 
 -- behind a line's content stands what ends it, or nothing

@@ -29,8 +29,8 @@ use Rattle.line_rows.proofs.LookLaws.{got-lies, some-before}
 use Rattle.basics.proofs.Bools.{none-some}
 use Rattle.law.specs.RecordSpelling.{SpellsField, SpellsFields, asText, asReference, asDate, asInteger, asNumber, asWord, none as noFields, more}
 use Rattle.shown_spelling.proofs.ValueSpelling.{field-complete, values-sound}
-use Rattle.shown_places.specs.FieldPlaces.{Spot}
-use Rattle.shown_places.specs.RowPlaces.{columnsOf, columnsOfAll}
+use Rattle.law.specs.FieldPlaces.{Spot}
+use Rattle.law.specs.RowPlaces.{columnsOf, columnsOfAll}
 use Rattle.shown_places.proofs.Spots.{spotsBy, spotsIn}
 
 -- a value has as many columns as its type

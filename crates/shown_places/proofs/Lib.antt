@@ -1,4 +1,3 @@
-pub mod DerivedPlaces
 pub mod Spots
 pub mod Fills
 pub mod LineRows

@@ -9,7 +9,7 @@ use lib.ListN.{length, drop, length-append}
 use Rattle.law.specs.Lines.{File, Free, next}
 use Rattle.law.specs.Values.{Rec}
 use Rattle.law.specs.declared.Context.{Context}
-use Rattle.shown_places.specs.RowPlaces.{RowOf, RowsAt, free, line, startAfter, LineRow}
+use Rattle.law.specs.RowPlaces.{RowOf, RowsAt, free, line, startAfter, LineRow}
 
 -- what stands behind a line and its byte 10
 pub drop-line : (u s : List ℕ) (k : ℕ) → drop k s ≡ drop (length u + 1 + k) (u ++ (10 ∷ s))

@@ -42,8 +42,8 @@ use Rattle.walk.specs.declared.Found.the-variants.{Row}
 use Rattle.walk.specs.declared.JudgedLine.{JudgedLine}
 use Rattle.shown_told.specs.Told.{Said, nothing, says, wrong, freeIn, saidOf, saidBy, saidAt, saidAs, lineSays}
 use Rattle.shown_read.proofs.FieldTails.{From, from-start, from-behind, Listed, line-listed}
-use Rattle.shown_places.specs.FieldPlaces.{Spot, SpelledAt}
-use Rattle.shown_places.specs.RowPlaces.{columnsOfAll, RowOf}
+use Rattle.law.specs.FieldPlaces.{Spot, SpelledAt}
+use Rattle.law.specs.RowPlaces.{columnsOfAll, RowOf}
 use Rattle.shown_places.proofs.Spots.{fieldIn, map-many, placed, places-found, spotsBy, spotsIn, spots-in}
 use Rattle.shown_places.proofs.Fills.{row-fills}
 

@@ -25,9 +25,9 @@ use Rattle.line_rows.specs.Meaning.{Part}
 use Rattle.line_rows.proofs.MeaningLaws.{part-bytes, part-within}
 use Rattle.law.specs.RecordSpelling.{SpellsField, SpellsFields, SpellsLine, SpellsRecord, asText, asReference, asDate, asInteger, asNumber, asWord, none as noFields, more, withKeyword, withProp, asData, asLine}
 use Rattle.shown_told.proofs.Fronts.{types-laid}
-use Rattle.shown_places.specs.FieldPlaces.{Spot, spotOf, SpelledAt, end, space, last, next, bytesOf}
-use Rattle.shown_places.specs.RowPlaces as rows
-use Rattle.shown_places.specs.RowPlaces.{columnsOf, columnsOfAll, RowOf, RowsAt}
+use Rattle.law.specs.FieldPlaces.{Spot, spotOf, SpelledAt, end, space, last, next, bytesOf}
+use Rattle.law.specs.RowPlaces as rows
+use Rattle.law.specs.RowPlaces.{columnsOf, columnsOfAll, RowOf, RowsAt}
 use Rattle.shown_places.proofs.Spots.{fieldIn, map-many, erased}
 use Rattle.shown_places.proofs.LineRows.{fields-many}
 use Rattle.shown_places.proofs.OneRow.{ends-one}

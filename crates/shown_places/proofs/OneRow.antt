@@ -8,8 +8,8 @@ use lib.ListN.{length, replicate, length-append, length-replicate}
 use Rattle.law.specs.Values.{Rec}
 use Rattle.law.specs.declared.Context.{Context}
 use Rattle.shown_spelling.proofs.FileSpelling.{record-not-free}
-use Rattle.shown_places.specs.FieldPlaces.{Spot}
-use Rattle.shown_places.specs.RowPlaces.{columnsOfAll, RowOf, RowsAt, end, free, line}
+use Rattle.law.specs.FieldPlaces.{Spot}
+use Rattle.law.specs.RowPlaces.{columnsOfAll, RowOf, RowsAt, end, free, line}
 use Rattle.shown_places.proofs.Spots.{places-unique}
 
 -- two ends of one length of a list are the same

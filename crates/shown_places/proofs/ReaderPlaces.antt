@@ -19,8 +19,8 @@ use Rattle.text_fields.specs.declared.FieldAnswer.{FieldAnswer}
 use Rattle.text_fields.specs.declared.FieldAnswer.the-variants.{Nothing, Got, Broken}
 use Rattle.line_rows.proofs.LookLaws.{got-lies}
 use Rattle.viewer.specs.Views.{lineAt, nextAt, placesBy, placesIn, placesOf}
-use Rattle.shown_places.specs.FieldPlaces.{Spot, SpelledAt, numbersOf}
-use Rattle.shown_places.specs.Viewing.{placeBehind}
+use Rattle.law.specs.FieldPlaces.{Spot, SpelledAt, numbersOf}
+use Rattle.law.specs.Viewing.{placeBehind}
 use Rattle.shown_places.proofs.Spots.{spotsBy, spotsIn, spots-in}
 use Rattle.shown_places.proofs.FileRows.{content-after}
 

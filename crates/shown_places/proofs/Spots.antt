@@ -18,7 +18,7 @@ use Rattle.law.specs.Fields as rules
 use Rattle.text_fields.specs.declared.FieldAnswer.{FieldAnswer}
 use Rattle.text_fields.specs.declared.FieldAnswer.the-variants.{Nothing, Got, Broken}
 use Rattle.text_fields.proofs.FieldSpelling.{fields-sound}
-use Rattle.shown_places.specs.FieldPlaces.{Spot, spotOf, SpelledAt, end, space, last, next}
+use Rattle.law.specs.FieldPlaces.{Spot, spotOf, SpelledAt, end, space, last, next}
 
 -- Erasing places gives `Spelled`, and a spelled line has places
 

@@ -23,9 +23,9 @@ use Rattle.text.proofs.LineSpelling.{lines-sound}
 use Rattle.text_fields.specs.Fields.{fieldsOf, countOf}
 use Rattle.text_fields.proofs.FieldSpelling.{fields-sound, fields-complete, fields-counted}
 use Rattle.viewer.specs.Views.{lineAt, nextAt, seenOf, lineReply, replyAt, movesOn, stepBy, stepOf, placesOf, placesAfter}
-use Rattle.shown_places.specs.FieldPlaces as at-places
-use Rattle.shown_places.specs.FieldPlaces.{Spot, numbersOf}
-use Rattle.shown_places.specs.Viewing.{Handed, comment, fields, numberBehind, Shown, too-large, no-line, not-permitted, no-fields, too-short, whole}
+use Rattle.law.specs.FieldPlaces as at-places
+use Rattle.law.specs.FieldPlaces.{Spot, numbersOf}
+use Rattle.law.specs.Viewing.{Handed, comment, fields, numberBehind, Shown, too-large, no-line, not-permitted, no-fields, too-short, whole}
 use Rattle.shown_places.proofs.Spots.{map-many, erased, places-found}
 use Rattle.shown_places.proofs.ReaderPlaces.{none-long, places-are, some-left, looked, next-behind}
 

@@ -6,26 +6,26 @@ use mathlib.Core.Bool.{true, false, false≢true}
 use native.Mathlib.Omega.{arith}
 use lib.IntN.{ℤ, pos}
 use lib.ListN.{length, getD, length-append}
 use Rattle.law.specs.Bytes as by
 use Rattle.law.specs.Bytes.{permitted, begins, inBare, ascii, All}
 use Rattle.law.specs.Lines as lines
 use Rattle.law.specs.Fields as rules
 use Rattle.law.specs.Fields.{Field, field, Spells, bare, quoted, Spelled}
 use Rattle.law.specs.Words.{sameBytes}
 use Rattle.law.specs.Sections.{sections}
 use Rattle.law.specs.Kinds.{sectionOf, lineOf, roleOf}
 use Rattle.law.specs.Layouts.{layoutOf}
 use Rattle.law.specs.Values.{text, Rec}
 use Rattle.law.specs.Fits.{under, meaning}
 use Rattle.law.specs.RecordSpelling as spelled
 use Rattle.law.specs.RecordSpelling.{SpellsRecord, asText, withProp, asLine}
 use Rattle.law.specs.Answers.{reply}
 use Rattle.law.specs.declared.Rules.the-variants.{Idf3}
 use Rattle.law.specs.declared.FileType.the-variants.{Library}
-use Rattle.shown_places.specs.FieldPlaces.{SpelledAt, end, space, last, next, numbersOf}
-use Rattle.shown_places.specs.RowPlaces as rows
-use Rattle.shown_places.specs.RowPlaces.{columnsOfAll, RowOf, RowsAt}
-use Rattle.shown_places.specs.Viewing.{comment, fields, Shown, no-line, not-permitted, no-fields, too-short, whole, after-0, after-3, after-4, MovesOn, Called, opened, moved, stayed}
+use Rattle.law.specs.FieldPlaces.{SpelledAt, end, space, last, next, numbersOf}
+use Rattle.law.specs.RowPlaces as rows
+use Rattle.law.specs.RowPlaces.{columnsOfAll, RowOf, RowsAt}
+use Rattle.law.specs.Viewing.{comment, fields, Shown, no-line, not-permitted, no-fields, too-short, whole, after-0, after-3, after-4, MovesOn, Called, opened, moved, stayed}
 
 -- a bare field, and one that is quoted, in a line that begins at 8
 pub quoted-place : SpelledAt 8 (record { at = 8; what = field false (ascii "a") } ∷ record { at = 11; what = field true (ascii "b c") } ∷ []) (97 ∷ 32 ∷ 34 ∷ 98 ∷ 32 ∷ 99 ∷ 34 ∷ [])

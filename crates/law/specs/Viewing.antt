@@ -8,12 +8,12 @@ use mathlib.Core.Bool.{true, false, cond}
 use lib.Dec.{ltb}
 use lib.IntN.{ℤ}
 use lib.ListN.{length, drop}
 use Rattle.law.specs.Bytes.{permitted, begins, All}
 use Rattle.law.specs.Lines.{File}
 use Rattle.law.specs.Fields.{Field, Spelled}
 use Rattle.law.specs.Answers.{limit, reply, over}
 use Rattle.law.specs.declared.Reply.{Reply}
-use Rattle.shown_places.specs.FieldPlaces.{Spot, SpelledAt, numbersOf}
+use Rattle.law.specs.FieldPlaces.{Spot, SpelledAt, numbersOf}
 
 -- the fields of a line that begins at b: a comment has none; any other is of permitted bytes and is spelled by its fields
 pub data Handed (b : ℕ) (line : List ℕ) : List Spot → Type 0 where

@@ -5,12 +5,12 @@ use mathlib.Core.Path.{_≡_}
 use mathlib.Core.List.{List, [], _∷_, _++_}
 use lib.IntN.{ℤ, pos}
 use lib.ListN.{length, replicate}
 use Rattle.law.specs.Lines.{Free}
 use Rattle.law.specs.Values.{Value, number, word, text, Rec}
 use Rattle.law.specs.declared.Context.{Context}
 use Rattle.law.specs.Rows.{width}
 use Rattle.law.specs.RecordSpelling.{SpellsRecord}
-use Rattle.shown_places.specs.FieldPlaces.{Spot, SpelledAt, startAndLength}
+use Rattle.law.specs.FieldPlaces.{Spot, SpelledAt, startAndLength}
 
 -- the columns of a value: a number itself, a word its place in its list, a text or a date the start and the length of its field
 abbrev pub columnsOf : Value → Spot → List ℤ

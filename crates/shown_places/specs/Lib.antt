@@ -1,3 +1,0 @@
-pub mod FieldPlaces
-pub mod RowPlaces
-pub mod Viewing
