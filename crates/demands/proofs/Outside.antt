@@ -1,4 +1,4 @@
--- The functions for other languages: the numbers that each leaves behind `reply` are those of an outcome of the operation.
+-- The functions for other languages: the numbers that each leaves behind `reply` are those of an outcome of the operation, and it asks nothing of a caller.
 use mathlib.Core.Path.{_≡_, refl}
 use contract.Lifetimes.{Lfts}
 use denote.Triple.Clauses.{AtExit}
@@ -59,3 +59,13 @@ pub outside-fields : (κs : Lfts 4) (a : Dens κs fields.ps) (r : resT fields.r 
     → (q : Step) × Shows (now (a .0)) (a .1 .0) (a .1 .1 .0) (now (a .1 .1 .1 .0)) q (now (s .1 .1 .1 .0)) × (now (s .1 .1 .1 .1 .0) ≡ ofPlace q)
     × (now (s .1 .1 .1 .1 .1 .0) ≡ ofOne (q .reply))
 outside-fields κs a r s e = (stepOf (now (a .0)) (a .1 .0) (a .1 .1 .0) (length (now (a .1 .1 .1 .0))), record { answer = refl; left = e .1 .1 }, e .1 .0, e .0)
+
+-- "No caller has to check anything beforehand": of the functions that are exported
+pub nothing-asked-outside :
+    ((κs : Lfts 2) (a : Dens κs check.ps) → check-says.Asked κs a)
+    × ((κs : Lfts 3) (a : Dens κs read.ps) → read-says.Asked κs a)
+    × ((κs : Lfts 4) (a : Dens κs write.ps) → write-says.Asked κs a)
+    × ((κs : Lfts 3) (a : Dens κs same.ps) → same-says.Asked κs a)
+    × ((κs : Lfts 3) (a : Dens κs judge.ps) → judge-says.Asked κs a)
+    × ((κs : Lfts 4) (a : Dens κs fields.ps) → fields-says.Asked κs a)
+nothing-asked-outside = (λ κs a. tt, λ κs a. tt, λ κs a. tt, λ κs a. tt, λ κs a. tt, λ κs a. tt)

@@ -1,6 +1,4 @@
 pub mod PlaceLaws
 pub mod ReplyLaws
 pub mod Shorter
-pub mod FieldsThere
-pub mod LineNumbers
 pub mod Examples
