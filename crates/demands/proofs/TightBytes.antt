@@ -24,12 +24,18 @@ use Rattle.number.proofs.is_below.Kinds as number-is-below
 use Rattle.number.proofs.is_below.Reads as number-is-below-says
 use Rattle.number.proofs.Length.new.Kinds as number-Length-new
 use Rattle.number.proofs.Length.new.Reads as number-Length-new-says
+use Rattle.number.proofs.Length.count.Kinds as number-Length-count
+use Rattle.number.proofs.Length.count.Reads as number-Length-count-says
 use Rattle.number.proofs.Angle.new.Kinds as number-Angle-new
 use Rattle.number.proofs.Angle.new.Reads as number-Angle-new-says
 use Rattle.number.proofs.Angle.included.Kinds as number-Angle-included
 use Rattle.number.proofs.Angle.included.Reads as number-Angle-included-says
+use Rattle.number.proofs.Angle.count.Kinds as number-Angle-count
+use Rattle.number.proofs.Angle.count.Reads as number-Angle-count-says
 use Rattle.number.proofs.Integer.new.Kinds as number-Integer-new
 use Rattle.number.proofs.Integer.new.Reads as number-Integer-new-says
+use Rattle.number.proofs.Integer.value.Kinds as number-Integer-value
+use Rattle.number.proofs.Integer.value.Reads as number-Integer-value-says
 use Rattle.number_read.proofs.number.Kinds as number-read-number
 use Rattle.number_read.proofs.number.Reads as number-read-number-says
 use Rattle.number_read.proofs.integer.Kinds as number-read-integer
@@ -150,14 +156,23 @@ tight-number-is-below κs a r q ws us e f = (e ∙ sym f, refl)
 pub tight-number-Length-new : Tight 0 number-Length-new.ps number-Length-new.r number-Length-new-says.Learnt
 tight-number-Length-new κs a r q ws us e f = (e ∙ sym f, refl)
 
+pub tight-number-Length-count : Tight 0 number-Length-count.ps number-Length-count.r number-Length-count-says.Learnt
+tight-number-Length-count κs a r q ws us e f = (e ∙ sym f, refl)
+
 pub tight-number-Angle-new : Tight 0 number-Angle-new.ps number-Angle-new.r number-Angle-new-says.Learnt
 tight-number-Angle-new κs a r q ws us e f = (e ∙ sym f, refl)
 
 pub tight-number-Angle-included : Tight 0 number-Angle-included.ps number-Angle-included.r number-Angle-included-says.Learnt
 tight-number-Angle-included κs a r q ws us e f = (e ∙ sym f, refl)
 
+pub tight-number-Angle-count : Tight 0 number-Angle-count.ps number-Angle-count.r number-Angle-count-says.Learnt
+tight-number-Angle-count κs a r q ws us e f = (e ∙ sym f, refl)
+
 pub tight-number-Integer-new : Tight 0 number-Integer-new.ps number-Integer-new.r number-Integer-new-says.Learnt
 tight-number-Integer-new κs a r q ws us e f = (e ∙ sym f, refl)
+
+pub tight-number-Integer-value : Tight 0 number-Integer-value.ps number-Integer-value.r number-Integer-value-says.Learnt
+tight-number-Integer-value κs a r q ws us e f = (e ∙ sym f, refl)
 
 -- `number_read`
 

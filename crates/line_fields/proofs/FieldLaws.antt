@@ -1,6 +1,6 @@
 -- Laws by which the code of a field follows its definition.
 use Prim.Native.Nat.{ℕ, suc, _≤_}
-use mathlib.Core.Path.{_≡_, refl, sym, ap, _∙_}
+use mathlib.Core.Path.{_≡_, refl, sym, _∙_}
 use mathlib.Core.List.{List, []}
 use mathlib.Core.Option.{Option, none, some}
 use mathlib.Core.Bool.{Bool, true, false, cond, not, _&&_, and-true}
@@ -147,8 +147,8 @@ unfolding kept
 kept-most c l n e = omega arith
 
 module _ (s : List ℕ) (a : WholeAnswer) (e : a ≡ readInteger s) where
-  pub integer-whole : (z : Integer) → a ≡ Whole z → Number (z .0) ≡ toldInteger s
-  integer-whole z h = rw (sym e ∙ h)
+  pub integer-whole : (z : Integer) (n : ℤ) → a ≡ Whole z → n ≡ z .0 → SFits w64 n → Number (back n) ≡ toldInteger s
+  integer-whole z n h k f = rw (sym e ∙ h, toZ-ofZ w64 n f, k)
 
   pub integer-not : a ≡ NotInteger → Refused 7 ≡ toldInteger s
   integer-not h = rw (sym e ∙ h)

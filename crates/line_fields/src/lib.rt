@@ -161,7 +161,7 @@ fn integer_field(s: &[u8]) -> FieldReply
     ensures { λ r. ⌜ r ≡ toldInteger (now (s .entry)) ⌝ }
 {
     match number_read::integer(s) {
-        WholeAnswer::Whole(z) => FieldReply::Number(z.0),
+        WholeAnswer::Whole(z) => FieldReply::Number(z.value()),
         WholeAnswer::NotInteger => FieldReply::Refused(refusals::NO_NUMBER),
     }
 }

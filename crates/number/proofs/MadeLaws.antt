@@ -2,7 +2,7 @@
 use mathlib.Core.Path.{_≡_, refl, sym, ap, _∙_}
 use mathlib.Core.Bool.{Bool, true, false, cond}
 use lib.Dec.{leb}
-use lib.IntN.{ℤ, natAbs}
+use lib.IntN.{ℤ, pos, natAbs}
 use mir.Syntax.{w64}
 use mir.Val.{SFits}
 use mir.ValLaws.{toZ-ofZ}
@@ -44,6 +44,15 @@ integer-by : (t : Bool) (x : Integer) → integerMade (cond t (int.Made x) int.B
 integer-by true x = refl
 integer-by false x = refl
 
+-- the value that was made, or 0
+length-kept : (z : ℤ) (t : Bool) (x : Length) → len.Made x ≡ cond t (len.Made (record { 0 = z })) len.Beyond → x ≡ record { 0 = cond t z (pos 0) }
+length-kept z true x e = cc
+length-kept z false x e = cc
+
+angle-kept : (z : ℤ) (t : Bool) (x : Angle) → ang.Made x ≡ cond t (ang.Made (record { 0 = z })) ang.Beyond → x ≡ record { 0 = cond t z (pos 0) }
+angle-kept z true x e = cc
+angle-kept z false x e = cc
+
 module _ (z : ℤ) (f : SFits w64 z) where
   module _ (a : LengthAnswer) (e : a ≡ lengthOf (back z)) where
     length-is : lengthMade a ≡ leb (natAbs z) largestLength
@@ -54,6 +63,12 @@ module _ (z : ℤ) (f : SFits w64 z) where
 
     pub length-beyond : a ≡ len.Beyond → false ≡ leb (natAbs z) largestLength
     length-beyond h = sym (ap lengthMade h) ∙ length-is
+
+    pub length-got : (x : Length) → a ≡ len.Made x → x ≡ record { 0 = cond (leb (natAbs z) largestLength) z (pos 0) }
+    length-got x h = length-kept z (leb (natAbs z) largestLength) x (sym h ∙ (rw (toZ-ofZ w64 z f) at e))
+
+    pub length-none : a ≡ len.Beyond → _≡_ {A = Length} (record { 0 = pos 0 }) (record { 0 = cond (leb (natAbs z) largestLength) z (pos 0) })
+    length-none h = rw (sym (length-beyond h))
 
   module _ (a : AngleAnswer) (e : a ≡ angleOf (back z)) where
     angle-is : angleMade a ≡ leb (natAbs z) largestAngle
@@ -74,6 +89,12 @@ module _ (z : ℤ) (f : SFits w64 z) where
 
     pub included-beyond : a ≡ ang.Beyond → false ≡ inTurn z
     included-beyond h = sym (ap angleMade h) ∙ included-is
+
+    pub included-got : (x : Angle) → a ≡ ang.Made x → x ≡ record { 0 = cond (inTurn z) z (pos 0) }
+    included-got x h = angle-kept z (inTurn z) x (sym h ∙ (rw (toZ-ofZ w64 z f) at e))
+
+    pub included-none : a ≡ ang.Beyond → _≡_ {A = Angle} (record { 0 = pos 0 }) (record { 0 = cond (inTurn z) z (pos 0) })
+    included-none h = rw (sym (included-beyond h))
 
   module _ (a : IntegerAnswer) (e : a ≡ integerOf (back z)) where
     integer-is : integerMade a ≡ leb (natAbs z) largestInteger

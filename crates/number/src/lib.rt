@@ -1,4 +1,4 @@
-// Numbers: lengths, angles and integers, kept apart by kind.
+// Numbers: lengths, angles and integers, kept apart by kind. Each is made by its constructors alone.
 ghost use mathlib.Core.Path.{_≡_};
 ghost use lib.IntN.{natAbs};
 ghost use Rattle.law.specs.Limits.{below};
@@ -23,7 +23,7 @@ pub fn is_below(z: i64) -> bool
 }
 
 // A length, as a count of hundred-thousandths of the file's unit.
-pub struct Length(pub i64);
+pub struct Length(i64);
 
 // A length, or none where the count is beyond the largest.
 pub enum LengthAnswer {
@@ -34,6 +34,8 @@ pub enum LengthAnswer {
 impl Length {
     pub const LARGEST: u64 = 99_999_999_999;
 
+    pub const ZERO: Length = Length(0);
+
     pub fn new(count: i64) -> LengthAnswer
         ensures { λ r. ⌜ r ≡ lengthOf count ⌝ }
     {
@@ -42,10 +44,17 @@ impl Length {
         }
         LengthAnswer::Made(Length(count))
     }
+
+    pub fn count(self) -> i64
+        ensures { λ r. ⌜ r ≡ self .0 ⌝ }
+    {
+        let Length(count) = self;
+        count
+    }
 }
 
 // An angle in degrees, as a count of hundred-thousandths.
-pub struct Angle(pub i64);
+pub struct Angle(i64);
 
 // An angle, or none where the count is beyond the limit.
 pub enum AngleAnswer {
@@ -57,6 +66,8 @@ impl Angle {
     pub const LARGEST: u64 = Length::LARGEST;
 
     pub const FULL_TURN: u64 = 36_000_000;
+
+    pub const ZERO: Angle = Angle(0);
 
     // Any angle, as a rotation is.
     pub fn new(count: i64) -> AngleAnswer
@@ -81,10 +92,17 @@ impl Angle {
         }
         AngleAnswer::Made(Angle(count))
     }
+
+    pub fn count(self) -> i64
+        ensures { λ r. ⌜ r ≡ self .0 ⌝ }
+    {
+        let Angle(count) = self;
+        count
+    }
 }
 
 // An integer: a loop's label, a file's version number.
-pub struct Integer(pub i64);
+pub struct Integer(i64);
 
 // An integer, or none where the value is beyond the largest.
 pub enum IntegerAnswer {
@@ -102,6 +120,13 @@ impl Integer {
             return IntegerAnswer::Beyond;
         }
         IntegerAnswer::Made(Integer(value))
+    }
+
+    pub fn value(self) -> i64
+        ensures { λ r. ⌜ r ≡ self .0 ⌝ }
+    {
+        let Integer(value) = self;
+        value
     }
 }
 

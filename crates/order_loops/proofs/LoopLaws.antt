@@ -11,7 +11,8 @@ use borrow.Author.Tests.{eqb-false, ne-eqb}
 use lib.IntN.{ℤ, pos, negsuc, sucℤ, _+ℤ_, +ℤ-sucℤ, +ℤ-idr}
 use Rattle.rows.specs.declared.Point.{Point}
 use Rattle.basics.specs.Integers.{eqZ}
-use Rattle.basics.proofs.Integers.{back, eqZ-true, back-same, same-as}
+use Rattle.basics.proofs.Integers.{back, eqZ-true, back-same, both-same, same-as}
+use Rattle.law.specs.Limits.{wholeTurn}
 use Rattle.order_loops.specs.Loops.{firstLabel, placeAt, samePlace, goesOn, closes, reached, loopAfter}
 use Rattle.order_loops.specs.Answers.{looped, turnsBy, begunBy, wentOn, nextLoop, secondBy, afterBack}
 use Rattle.order_loops.specs.declared.Place.{Place}
@@ -41,18 +42,24 @@ reached-back l f p x fl e h = let z : samePlace p f ≡ true = sym e ∙ h in rw
 pub reached-away : (l : ℤ) (f p : Place) (x : Bool) → SFits w64 l → x ≡ samePlace p f → x ≡ false → Away (back l) f p ≡ reached l f p
 reached-away l f p x fl e h = let z : samePlace p f ≡ false = sym e ∙ h in rw (z, toZ-ofZ w64 l fl)
 
-pub begun : (may x : Bool) (l : ℤ) (d : Point) (p : Place) → SFits w64 l → SFits w64 (d .angle .0) → x ≡ eqZ (back (d .angle .0)) (pos 0) → (may && x) ≡ true → p ≡ placeAt d
-    → Onward (OnePoint (back l) p) ≡ begunBy may l d
-begun may x l d p fl fa e h f =
-    let y : x ≡ eqZ (d .angle .0) (pos 0) = same-as (d .angle .0) (pos 0) x fa e in
-    let z : (may && eqZ (d .angle .0) (pos 0)) ≡ true = ap (λ (b : Bool). may && b) (sym y) ∙ h in
-    rw (z, f, toZ-ofZ w64 l fl)
+-- places and angles by their counts
+pub place-by : (p q : Place) (a b c d : ℤ) (r s : Bool) → a ≡ p .x .0 → b ≡ q .x .0 → c ≡ p .y .0 → d ≡ q .y .0 → SFits w64 a → SFits w64 b → SFits w64 c → SFits w64 d
+    → r ≡ eqZ (back a) (back b) → s ≡ eqZ (back c) (back d) → (r && s) ≡ samePlace p q
+place-by p q a b c d r s ea eb ec ed fa fb fc fd e f = both-same a b c d r s fa fb fc fd e f ∙ rw (ea, eb, ec, ed)
 
-pub not-begun : (may x : Bool) (l : ℤ) (d : Point) → SFits w64 (d .angle .0) → x ≡ eqZ (back (d .angle .0)) (pos 0) → (may && x) ≡ false → Broken ≡ begunBy may l d
-not-begun may x l d fa e h =
-    let y : x ≡ eqZ (d .angle .0) (pos 0) = same-as (d .angle .0) (pos 0) x fa e in
-    let z : (may && eqZ (d .angle .0) (pos 0)) ≡ false = ap (λ (b : Bool). may && b) (sym y) ∙ h in
-    rw z
+module _ (d : Point) (a : ℤ) (ea : a ≡ d .angle .0) (fa : SFits w64 a) (x : Bool) where
+  pub turns-is : x ≡ eqZ (back a) wholeTurn → x ≡ turnsBy d
+  turns-is e = same-as a wholeTurn x fa e ∙ rw ea
+
+  module _ (may : Bool) (l : ℤ) (e : x ≡ eqZ (back a) (pos 0)) where
+    flat : (may && x) ≡ (may && eqZ (d .angle .0) (pos 0))
+    flat = ap (λ (b : Bool). may && b) (same-as a (pos 0) x fa e ∙ rw ea)
+
+    pub begun : (p : Place) → SFits w64 l → (may && x) ≡ true → p ≡ placeAt d → Onward (OnePoint (back l) p) ≡ begunBy may l d
+    begun p fl h f = rw (sym flat ∙ h, f, toZ-ofZ w64 l fl)
+
+    pub not-begun : (may && x) ≡ false → Broken ≡ begunBy may l d
+    not-begun h = rw (sym flat ∙ h)
 
 -- a loop that goes on
 pub onward-is : (l : ℤ) (f q p : Place) (d : Point) (x : Bool) (s : LoopState) → SFits w64 l → x ≡ goesOn (back l) q d → x ≡ true → p ≡ placeAt d → s ≡ reached (back l) f p

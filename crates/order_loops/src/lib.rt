@@ -44,7 +44,7 @@ fn follows(a: i64, b: i64) -> bool
 fn same_place(p: Place, q: Place) -> bool
     ensures { λ r. ⌜ r ≡ samePlace p q ⌝ }
 {
-    same_integers(p.x.0, q.x.0) & same_integers(p.y.0, q.y.0)
+    same_integers(p.x.count(), q.x.count()) & same_integers(p.y.count(), q.y.count())
 }
 
 // Where a point is.
@@ -60,7 +60,7 @@ fn place_at(d: Point) -> Place
 fn turns(d: Point) -> bool
     ensures { λ r. ⌜ r ≡ turnsBy d ⌝ }
 {
-    same_integers(d.angle.0, Angle::FULL_TURN as i64)
+    same_integers(d.angle.count(), Angle::FULL_TURN as i64)
 }
 
 // Whether a point with this label, not at q and not 360, goes on.
@@ -92,7 +92,7 @@ fn reached(label: i64, f: Place, p: Place) -> LoopState
 fn begins(may: bool, label: i64, d: Point) -> LoopAnswer
     ensures { λ r. ⌜ r ≡ begunBy may label d ⌝ }
 {
-    if may & same_integers(d.angle.0, 0) {
+    if may & same_integers(d.angle.count(), 0) {
         LoopAnswer::Onward(LoopState::OnePoint(label, place_at(d)))
     } else {
         LoopAnswer::Broken

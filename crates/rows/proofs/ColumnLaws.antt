@@ -6,13 +6,16 @@ use mathlib.Core.Bool.{Bool, true, false, _||_}
 use native.Mathlib.Omega.{arith}
 use mir.Syntax.{w64}
 use mir.Val.{SFits}
+use mir.ValLaws.{toZ-ofZ}
 use lib.IntN.{ℤ, pos}
 use lib.ListN.{length, List·getD-eq-default}
 use Rattle.basics.specs.Integers.{eqZ}
 use Rattle.basics.proofs.Integers.{back, same-as, back-same}
 use Rattle.law.specs.Kinds.{electricalKind, mechanicalKind}
 use Rattle.law.specs.declared.FileType.the-variants.{Board, Panel, Library}
-use Rattle.rows.specs.Columns.{columnAt, kindColumn, fileTypeColumn, typeInRow}
+use Rattle.number.specs.declared.Length.{Length}
+use Rattle.number.specs.declared.Angle.{Angle}
+use Rattle.rows.specs.Columns.{columnAt, kindColumn, fileTypeColumn, lengthIn, includedIn, pointIn, typeInRow}
 use Rattle.rows.specs.RowKinds.{componentKind, leadsComponent}
 
 -- a column, read back from its bits
@@ -35,6 +38,12 @@ mechanical-is b h = rw h
 
 pub electrical-is : (b : Bool) → b ≡ false → pos electricalKind ≡ componentKind b
 electrical-is b h = rw h
+
+-- a point by its columns
+pub point-by : (row : List ℤ) (x y : Length) (a : Angle) → SFits w64 (columnAt row 1) → SFits w64 (columnAt row 2) → SFits w64 (columnAt row 3) → SFits w64 (columnAt row 4)
+    → x ≡ lengthIn (column row 2) → y ≡ lengthIn (column row 3) → a ≡ includedIn (column row 4) → record { label = column row 1; x = x; y = y; angle = a } ≡ pointIn row
+point-by row x y a f g h i e j k =
+    rw (e, j, k, toZ-ofZ w64 (columnAt row 1) f, toZ-ofZ w64 (columnAt row 2) g, toZ-ofZ w64 (columnAt row 3) h, toZ-ofZ w64 (columnAt row 4) i)
 
 -- the type of a title line by its first column
 module _ (row : List ℤ) (x : Bool) (f : SFits w64 (fileTypeColumn row)) (e : x ≡ eqZ (back (fileTypeColumn row)) (pos 0)) where

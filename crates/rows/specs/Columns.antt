@@ -2,11 +2,15 @@
 use Prim.Native.Nat.{ℕ}
 use mathlib.Core.List.{List}
 use mathlib.Core.Bool.{cond}
-use lib.IntN.{ℤ, pos}
+use lib.Dec.{leb}
+use lib.IntN.{ℤ, pos, natAbs}
 use lib.ListN.{getD}
 use Rattle.basics.specs.Integers.{eqZ}
+use Rattle.law.specs.Limits.{largestLength, inTurn}
 use Rattle.law.specs.declared.FileType.{FileType}
 use Rattle.law.specs.declared.FileType.the-variants.{Board, Panel, Library}
+use Rattle.number.specs.declared.Length.{Length}
+use Rattle.number.specs.declared.Angle.{Angle}
 use Rattle.rows.specs.declared.Point.{Point}
 
 -- number i of a row
@@ -41,9 +45,16 @@ referenceStart row = columnAt row 5
 abbrev pub referenceLength : List ℤ → ℤ
 referenceLength row = columnAt row 6
 
+-- a length, and an included angle; 0 for what is none, which no point line holds
+abbrev pub lengthIn : ℤ → Length
+lengthIn z = record { 0 = cond (leb (natAbs z) largestLength) z (pos 0) }
+
+abbrev pub includedIn : ℤ → Angle
+includedIn z = record { 0 = cond (inTurn z) z (pos 0) }
+
 -- the point in the row of a point line: label, x, y, angle
 abbrev pub pointIn : List ℤ → Point
-pointIn row = record { label = columnAt row 1; x = record { 0 = columnAt row 2 }; y = record { 0 = columnAt row 3 }; angle = record { 0 = columnAt row 4 } }
+pointIn row = record { label = columnAt row 1; x = lengthIn (columnAt row 2); y = lengthIn (columnAt row 3); angle = includedIn (columnAt row 4) }
 
 -- the file's type in the row of a title line
 abbrev pub typeInRow : List ℤ → FileType

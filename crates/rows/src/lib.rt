@@ -2,11 +2,13 @@
 use basics::same_integers;
 use law::FileType;
 use number::Angle;
+use number::AngleAnswer;
 use number::Length;
+use number::LengthAnswer;
 ghost use mathlib.Core.Path.{_≡_};
 ghost use Rattle.basics.specs.Integers.{eqZ};
 ghost use Rattle.law.specs.Records.{isLibrary};
-ghost use Rattle.rows.specs.Columns.{columnAt, kindColumn, pointIn, typeInRow};
+ghost use Rattle.rows.specs.Columns.{columnAt, kindColumn, lengthIn, includedIn, pointIn, typeInRow};
 ghost use Rattle.rows.specs.RowKinds.{leadsComponent, componentKind};
 
 // How many numbers a row has.
@@ -90,15 +92,35 @@ pub fn leads_component(row: [i64; WIDTH]) -> bool
     has_kind(row, ELECTRICAL) | has_kind(row, MECHANICAL)
 }
 
+// The length in a column; 0 where the column, of another line, holds none.
+fn length_in(z: i64) -> Length
+    ensures { λ r. ⌜ r ≡ lengthIn z ⌝ }
+{
+    match Length::new(z) {
+        LengthAnswer::Made(l) => l,
+        LengthAnswer::Beyond => Length::ZERO,
+    }
+}
+
+// The included angle in a column, likewise.
+fn included_in(z: i64) -> Angle
+    ensures { λ r. ⌜ r ≡ includedIn z ⌝ }
+{
+    match Angle::included(z) {
+        AngleAnswer::Made(a) => a,
+        AngleAnswer::Beyond => Angle::ZERO,
+    }
+}
+
 // The point in the row of a point line.
 pub fn point_in(row: [i64; WIDTH]) -> Point
     ensures { λ r. ⌜ r ≡ pointIn row ⌝ }
 {
     Point {
         label: row[LABEL],
-        x: Length(row[X]),
-        y: Length(row[Y]),
-        angle: Angle(row[ANGLE]),
+        x: length_in(row[X]),
+        y: length_in(row[Y]),
+        angle: included_in(row[ANGLE]),
     }
 }
 

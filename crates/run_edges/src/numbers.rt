@@ -31,7 +31,7 @@ fn integer(name: &[u8], s: &[u8]) {
     match number_read::integer(s) {
         WholeAnswer::Whole(z) => {
             say(b": ");
-            saying::signed(z.0);
+            saying::signed(z.value());
         }
         WholeAnswer::NotInteger => {
             say(b": no integer");

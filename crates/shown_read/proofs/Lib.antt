@@ -1,4 +1,5 @@
 pub mod FieldTails
+pub mod PointKinds
 pub mod RowColumns
 pub mod LineJoined
 pub mod LineUsed

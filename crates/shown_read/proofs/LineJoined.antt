@@ -95,9 +95,9 @@ module _ (v : Rules) (st : State) where
       its = record { kind = k; values = vs }
 
       -- the point counts only where the row has it, and so does the type
-      point-moves : (t : FileType) (b : Bool) → isRole (roleOf v k) point ≡ b → moved v st k t (pointOf its) ≡ moved v st k t (pointIn row)
-      point-moves t true e = ap (moved v st k t) (sym (point-in file v k row vs h e))
-      point-moves t false e = point-only v st k t (pointOf its) (pointIn row) e
+      point-moves : WellFormed (under v (typeAt st)) its → (t : FileType) (b : Bool) → isRole (roleOf v k) point ≡ b → moved v st k t (pointOf its) ≡ moved v st k t (pointIn row)
+      point-moves w t true e = ap (moved v st k t) (sym (point-in file v k row vs h (typeAt st) w e))
+      point-moves w t false e = point-only v st k t (pointOf its) (pointIn row) e
 
       title-moves : (d : Point) (b : Bool) → isRole (roleOf v k) title ≡ b → moved v st k (typeIn its) d ≡ moved v st k (typeInRow row) d
       title-moves d true e = ap (λ (t : FileType). moved v st k t d) (sym (type-in file v k row vs h e))
@@ -108,7 +108,7 @@ module _ (v : Rules) (st : State) where
       unfolding stepped
       row-steps w =
           admit-fresh its ∙ advance-stepped v st its w
-          ∙ rw m (point-moves (typeIn its) (isRole (roleOf v k) point) refl ∙ title-moves (pointIn row) (isRole (roleOf v k) title) refl)
+          ∙ rw m (point-moves w (typeIn its) (isRole (roleOf v k) point) refl ∙ title-moves (pointIn row) (isRole (roleOf v k) title) refl)
 
       moved-joined : WellFormed (under v (typeAt st)) its
           → Joined v file st (saidOf its (admit v [] st its)) (movedRow st row (stepped v st k (typeInRow row) (pointIn row)))

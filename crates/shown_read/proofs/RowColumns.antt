@@ -16,9 +16,10 @@ use Rattle.law.specs.Values.{Value, word, Rec}
 use Rattle.law.specs.Sections.{sections}
 use Rattle.law.specs.Kinds.{sectionOf, lineOf, title, point, roleOf}
 use Rattle.law.specs.Layouts.{layoutOf, typesOf}
-use Rattle.law.specs.Fits.{meaning}
+use Rattle.law.specs.Fits.{under, meaning, WellFormed}
 use Rattle.law.specs.declared.Rules.{Rules}
 use Rattle.law.specs.declared.Rules.the-variants.{Idf3}
+use Rattle.law.specs.declared.FileType.{FileType}
 use Rattle.law.specs.declared.FieldType.{FieldType}
 use Rattle.law.specs.declared.FieldType.the-variants.{Text as T, Reference as Ref, Date as D, Integer as I, Number as N, Word as W}
 use Rattle.law.specs.Rows.{isNumber, isText, Means, none, aNumber, aWord, aDate, aText, Holds}
@@ -27,23 +28,13 @@ use Rattle.law.specs.Records.{numOf, wordOf, bytesOf, typeIn, Named, namesAComp
 use Rattle.order.specs.Marks.{pointOf}
 use Rattle.order.specs.Automaton.{isRole}
 use Rattle.shown_lists.proofs.Tables.{component-fields}
+use Rattle.shown_read.proofs.PointKinds.{numbersTo, number-first, includedAt, length-at, turn-at, fits-types}
 
 -- the component in the row of a leading line: the texts of its first two fields
 abbrev pub nameAt : List ℕ → List ℤ → Named
 nameAt file x = record { geometry = geometryIn file x; number = partIn file x }
 
 -- What the types in front of a layout are
-
--- those up to number n are of numbers
-abbrev numbersTo : ℕ → List FieldType → Bool
-numbersTo n [] = false
-numbersTo zero (t ∷ ts) = isNumber t
-numbersTo (suc n) (t ∷ ts) = isNumber t && numbersTo n ts
-
-number-first : (n : ℕ) (t : FieldType) (ts : List FieldType) → numbersTo n (t ∷ ts) ≡ true → isNumber t ≡ true
-number-first zero t ts h = h
-number-first (suc n) t ts h = both (isNumber t) (numbersTo n ts) h .0
-
 abbrev isWord : FieldType → Bool
 isWord T = false
 isWord Ref = false
@@ -64,19 +55,22 @@ word-alone I h = absurd (false≢true h)
 word-alone (N l) h = absurd (false≢true h)
 word-alone (W l) h = (λ i. false≢true i, λ i. false≢true i)
 
--- a point is four numbers, and a title begins with a word
+-- a point is four numbers, the last an included angle, and a title begins with a word
+abbrev pointLike : List FieldType → Bool
+pointLike ts = numbersTo 3 ts && includedAt 3 ts
+
 abbrev asked : Rules → ℕ → Bool
-asked v k = (not (isRole (roleOf v k) point) || numbersTo 3 (typesOf v k)) && (not (isRole (roleOf v k) title) || wordFirst (typesOf v k))
+asked v k = (not (isRole (roleOf v k) point) || pointLike (typesOf v k)) && (not (isRole (roleOf v k) title) || wordFirst (typesOf v k))
 
 as-asked : (v : Rules) (k : ℕ) → asked v k ≡ true
 unfolding roleOf typesOf layoutOf sectionOf lineOf sections
 as-asked Idf3 = each-kind (asked Idf3) refl (λ k e. rw e)
 
-point-numbers : (v : Rules) (k : ℕ) → isRole (roleOf v k) point ≡ true → numbersTo 3 (typesOf v k) ≡ true
-point-numbers v k e = other (not (isRole (roleOf v k) point)) _ (rw e) (both (not (isRole (roleOf v k) point) || numbersTo 3 (typesOf v k)) _ (as-asked v k) .0)
+point-types : (v : Rules) (k : ℕ) → isRole (roleOf v k) point ≡ true → pointLike (typesOf v k) ≡ true
+point-types v k e = other (not (isRole (roleOf v k) point)) _ (rw e) (both (not (isRole (roleOf v k) point) || pointLike (typesOf v k)) _ (as-asked v k) .0)
 
 title-word : (v : Rules) (k : ℕ) → isRole (roleOf v k) title ≡ true → wordFirst (typesOf v k) ≡ true
-title-word v k e = other (not (isRole (roleOf v k) title)) _ (rw e) (both (not (isRole (roleOf v k) point) || numbersTo 3 (typesOf v k)) _ (as-asked v k) .1)
+title-word v k e = other (not (isRole (roleOf v k) title)) _ (rw e) (both (not (isRole (roleOf v k) point) || pointLike (typesOf v k)) _ (as-asked v k) .1)
 
 -- Columns in front of zs, and the values that they mean
 module _ {file : List ℕ} (zs : List ℤ) where
@@ -109,12 +103,23 @@ module _ (file : List ℕ) (v : Rules) (k : ℕ) (row : List ℤ) (vs : List Val
   abbrev its : Rec
   its = record { kind = k; values = vs }
 
-  pub point-in : isRole (roleOf v k) point ≡ true → pointIn row ≡ pointOf its
-  point-in e =
+  pub point-in : (t : FileType) → WellFormed (under v t) its → isRole (roleOf v k) point ≡ true → pointIn row ≡ pointOf its
+  point-in t w e =
       let m = h .means in
-      let n = point-numbers v k e in
+      let p = both (numbersTo 3 (typesOf v k)) (includedAt 3 (typesOf v k)) (point-types v k e) in
+      let n = p .0 in
+      let f = fits-types (under v t) k vs w in
       let z = replicate (h .left) (pos 0) in
-      rw (h .is, number-column z m 3 0 (omega arith) n, number-column z m 3 1 (omega arith) n, number-column z m 3 2 (omega arith) n, number-column z m 3 3 (omega arith) n)
+      rw (
+        h .is,
+        number-column z m 3 0 (omega arith) n,
+        number-column z m 3 1 (omega arith) n,
+        number-column z m 3 2 (omega arith) n,
+        number-column z m 3 3 (omega arith) n,
+        length-at (under v t) (typesOf v k) vs 3 1 (omega arith) n f,
+        length-at (under v t) (typesOf v k) vs 3 2 (omega arith) n f,
+        turn-at (under v t) (typesOf v k) vs 3 (p .1) f,
+      )
 
   pub type-in : isRole (roleOf v k) title ≡ true → typeInRow row ≡ typeIn its
   unfolding eqZ

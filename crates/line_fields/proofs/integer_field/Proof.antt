@@ -12,6 +12,9 @@ integer-requires c κs = search laws
 enum-known-z : tie.Need-enum-known-z
 enum-known-z c = search laws
 
+value-requires : tie.Need-value-requires
+value-requires c κs = search laws
+
 enum-told : tie.Need-enum-told
 enum-told c = search laws
 
@@ -24,4 +27,4 @@ returns-2 c = search laws
 pub integer-field-spec : {M : Type 1} → statement M
 integer-field-spec =
     tie.close
-    (tie.spec integer-requires enum-known-z enum-told returns returns-2)
+    (tie.spec integer-requires enum-known-z value-requires enum-told returns returns-2)

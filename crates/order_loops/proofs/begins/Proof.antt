@@ -6,6 +6,9 @@ use Rattle.order_loops.proofs.begins.Tie as tie
 
 ruleset laws = (begun, not-begun, needs)
 
+count-requires : tie.Need-count-requires
+count-requires c κs = search laws
+
 same-integers-requires : tie.Need-same-integers-requires
 same-integers-requires c κs = search laws
 
@@ -21,4 +24,4 @@ returns-2 c = search laws
 pub begins-spec : {M : Type 1} → statement M
 begins-spec =
     tie.close
-    (tie.spec same-integers-requires place-at-requires returns returns-2)
+    (tie.spec count-requires same-integers-requires place-at-requires returns returns-2)

@@ -1,10 +1,13 @@
 -- `order_loops::turns` meets its contract. Assumes nothing.
 use borrow.Author.Needs.{needs}
-use Rattle.basics.proofs.Integers.{same-as}
+use Rattle.order_loops.proofs.LoopLaws.{turns-is}
 use Rattle.order_loops.proofs.turns.Statement.{statement}
 use Rattle.order_loops.proofs.turns.Tie as tie
 
-ruleset laws = (same-as, needs)
+ruleset laws = (turns-is, needs)
+
+count-requires : tie.Need-count-requires
+count-requires c κs = search laws
 
 cast-same-integers : tie.Need-cast-same-integers
 cast-same-integers c = search laws
@@ -18,4 +21,4 @@ returns c = search laws
 pub turns-spec : {M : Type 1} → statement M
 turns-spec =
     tie.close
-    (tie.spec cast-same-integers same-integers-requires returns)
+    (tie.spec count-requires cast-same-integers same-integers-requires returns)
