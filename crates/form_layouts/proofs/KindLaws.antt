@@ -1,5 +1,5 @@
 -- Laws of kinds and of the table of layouts.
-use Prim.Native.Nat.{ℕ, zero, suc, _+_, _/_, _-_, _≤_, _<_}
+use Prim.Native.Nat.{ℕ, zero, suc, _+_, _*_, _/_, _-_, _≤_, _<_}
 use mir.Syntax.{w64}
 use mir.Val.{Fits}
 use mathlib.Core.Path.{_≡_, refl, _∙_}
@@ -30,9 +30,9 @@ use Rattle.law.specs.declared.Rules.{Rules}
 use Rattle.law.specs.declared.Rules.the-variants.{Idf3}
 
 -- ten kinds to a section, and none above
-pub in-section : (v : Rules) (k : ℕ) → k ≤ lastKind → k / 10 ≡ sectionOf v k
+pub in-section : (v : Rules) (k s : ℕ) → s ≤ 15 → 10 * s ≤ k → k ≤ 10 * s + 9 → s ≡ sectionOf v k
 unfolding sectionOf
-in-section Idf3 k h = rw (le-leb k lastKind h)
+in-section Idf3 k s h l u = let e : s ≡ k / 10 = omega arith in rw (le-leb k lastKind (omega arith)) e
 
 pub no-section : (v : Rules) (k : ℕ) → lastKind < k → 0 ≡ sectionOf v k
 unfolding sectionOf
