@@ -96,6 +96,8 @@ use Rattle.form_words.proofs.word_row.Kinds as form-words-word-row
 use Rattle.form_words.proofs.word_row.Reads as form-words-word-row-says
 use Rattle.form_words.proofs.name_row.Kinds as form-words-name-row
 use Rattle.form_words.proofs.name_row.Reads as form-words-name-row-says
+use Rattle.form_words.proofs.closing_row.Kinds as form-words-closing-row
+use Rattle.form_words.proofs.closing_row.Reads as form-words-closing-row-says
 use Rattle.form_words.proofs.is_prop.Kinds as form-words-is-prop
 use Rattle.form_words.proofs.is_prop.Reads as form-words-is-prop-says
 use Rattle.form_words.proofs.read_keyword.Kinds as form-words-read-keyword
@@ -275,6 +277,9 @@ tight-form-words-word-row κs a r q ws us e f = (e ∙ sym f, refl)
 
 pub tight-form-words-name-row : Tight 0 form-words-name-row.ps form-words-name-row.r form-words-name-row-says.Learnt
 tight-form-words-name-row κs a r q ws us e f = (e ∙ sym f, refl)
+
+pub tight-form-words-closing-row : Tight 0 form-words-closing-row.ps form-words-closing-row.r form-words-closing-row-says.Learnt
+tight-form-words-closing-row κs a r q ws us e f = (e ∙ sym f, refl)
 
 pub tight-form-words-is-prop : Tight 1 form-words-is-prop.ps form-words-is-prop.r form-words-is-prop-says.Learnt
 tight-form-words-is-prop κs a r q ws us e f = (e ∙ sym f, refl)

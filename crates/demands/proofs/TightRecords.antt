@@ -123,8 +123,8 @@ tight-write-texts-text-len κs a r q ws us e f = (e ∙ sym f, refl)
 pub tight-write-texts-put-text : Tight 2 write-texts-put-text.ps write-texts-put-text.r write-texts-put-text-says.Learnt
 tight-write-texts-put-text κs a r q ws us e f = (e .next ∙ sym (f .next), λ i. ((e .is ∙ sym (f .is)) i, ws .1))
 
-pub tight-write-texts-padded-len : Tight 0 write-texts-padded-len.ps write-texts-padded-len.r write-texts-padded-len-says.Learnt
+pub tight-write-texts-padded-len : Tight 1 write-texts-padded-len.ps write-texts-padded-len.r write-texts-padded-len-says.Learnt
 tight-write-texts-padded-len κs a r q ws us e f = (e ∙ sym f, refl)
 
-pub tight-write-texts-put-padded : Tight 1 write-texts-put-padded.ps write-texts-put-padded.r write-texts-put-padded-says.Learnt
+pub tight-write-texts-put-padded : Tight 2 write-texts-put-padded.ps write-texts-put-padded.r write-texts-put-padded-says.Learnt
 tight-write-texts-put-padded κs a r q ws us e f = (e .next ∙ sym (f .next), λ i. ((e .is ∙ sym (f .is)) i, ws .1))

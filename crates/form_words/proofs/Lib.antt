@@ -1,3 +1,4 @@
 pub mod PaddedLaws
-pub mod NameLaws
+pub mod SeekLaws
+pub mod KeywordLaws
 pub mod RowLaws

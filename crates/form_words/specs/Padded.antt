@@ -1,8 +1,8 @@
--- The tables of names and words as the code has them: rows of one length, padded with spaces; and rows compared with bytes.
+-- The tables of keywords and words as the code has them: rows padded with spaces; and rows compared with bytes.
 use Prim.Native.Nat.{ℕ, suc, _+_, _-_}
 use mathlib.Core.List.{List, [], _∷_}
 use mathlib.Core.Option.{Option, none, some}
-use mathlib.Core.Bool.{Bool, true, false, cond, not, _&&_}
+use mathlib.Core.Bool.{Bool, true, false, cond, not, _&&_, _||_}
 use lib.Dec.{ltb, eqb}
 use lib.ListN.{getD, take, drop}
 use Rattle.law.specs.Bytes.{ascii}
@@ -34,34 +34,49 @@ matched fold [] (b ∷ s) = false
 matched fold (r ∷ row) [] = eqb r 32
 matched fold (r ∷ row) (b ∷ s) = not (eqb r 32) && (eqb r (keyed fold b) && matched fold row s)
 
--- the first byte as it is compared, 0 where there is none
-abbrev pub headOf : Bool → List ℕ → ℕ
-headOf fold [] = 0
-headOf fold (b ∷ s) = keyed fold b
-
 abbrev pub found : Option ℕ → WordAnswer
 found none = Nowhere
 found (some n) = At n
 
--- section names, then words, list after list
-unfoldable pub rowTable : List (List ℕ)
-rowTable =
-    ascii "HEADER          "
-    ∷ ascii "BOARD_OUTLINE   "
-    ∷ ascii "PANEL_OUTLINE   "
-    ∷ ascii "OTHER_OUTLINE   "
-    ∷ ascii "ROUTE_OUTLINE   "
-    ∷ ascii "PLACE_OUTLINE   "
-    ∷ ascii "ROUTE_KEEPOUT   "
-    ∷ ascii "VIA_KEEPOUT     "
-    ∷ ascii "PLACE_KEEPOUT   "
-    ∷ ascii "PLACE_REGION    "
-    ∷ ascii "DRILLED_HOLES   "
-    ∷ ascii "NOTES           "
-    ∷ ascii "PLACEMENT       "
-    ∷ ascii "ELECTRICAL      "
-    ∷ ascii "MECHANICAL      "
-    ∷ ascii "BOARD_FILE      "
+-- section names, then their closing forms
+unfoldable pub keywordTable : List (List ℕ)
+keywordTable =
+    ascii "HEADER              "
+    ∷ ascii "BOARD_OUTLINE       "
+    ∷ ascii "PANEL_OUTLINE       "
+    ∷ ascii "OTHER_OUTLINE       "
+    ∷ ascii "ROUTE_OUTLINE       "
+    ∷ ascii "PLACE_OUTLINE       "
+    ∷ ascii "ROUTE_KEEPOUT       "
+    ∷ ascii "VIA_KEEPOUT         "
+    ∷ ascii "PLACE_KEEPOUT       "
+    ∷ ascii "PLACE_REGION        "
+    ∷ ascii "DRILLED_HOLES       "
+    ∷ ascii "NOTES               "
+    ∷ ascii "PLACEMENT           "
+    ∷ ascii "ELECTRICAL          "
+    ∷ ascii "MECHANICAL          "
+    ∷ ascii "END_HEADER          "
+    ∷ ascii "END_BOARD_OUTLINE   "
+    ∷ ascii "END_PANEL_OUTLINE   "
+    ∷ ascii "END_OTHER_OUTLINE   "
+    ∷ ascii "END_ROUTE_OUTLINE   "
+    ∷ ascii "END_PLACE_OUTLINE   "
+    ∷ ascii "END_ROUTE_KEEPOUT   "
+    ∷ ascii "END_VIA_KEEPOUT     "
+    ∷ ascii "END_PLACE_KEEPOUT   "
+    ∷ ascii "END_PLACE_REGION    "
+    ∷ ascii "END_DRILLED_HOLES   "
+    ∷ ascii "END_NOTES           "
+    ∷ ascii "END_PLACEMENT       "
+    ∷ ascii "END_ELECTRICAL      "
+    ∷ ascii "END_MECHANICAL      "
+    ∷ []
+
+-- words, list after list
+unfoldable pub wordTable : List (List ℕ)
+wordTable =
+    ascii "BOARD_FILE      "
     ∷ ascii "PANEL_FILE      "
     ∷ ascii "LIBRARY_FILE    "
     ∷ ascii "MM              "
@@ -94,38 +109,40 @@ sought fold n (r ∷ rows) s = cond (matched fold r s) (At n) (sought fold (suc 
 
 -- where a list of words stands in the table
 abbrev pub spanOf : Rules → Words → Span
-spanOf Idf3 FileTypes = record { first = 15; count = 3 }
-spanOf Idf3 Units = record { first = 18; count = 2 }
-spanOf Idf3 Owners = record { first = 20; count = 3 }
-spanOf Idf3 Faces = record { first = 23; count = 2 }
-spanOf Idf3 Sides = record { first = 25; count = 3 }
-spanOf Idf3 Layers = record { first = 28; count = 5 }
-spanOf Idf3 Plates = record { first = 33; count = 2 }
-spanOf Idf3 Statuses = record { first = 35; count = 4 }
+spanOf Idf3 FileTypes = record { first = 0; count = 3 }
+spanOf Idf3 Units = record { first = 3; count = 2 }
+spanOf Idf3 Owners = record { first = 5; count = 3 }
+spanOf Idf3 Faces = record { first = 8; count = 2 }
+spanOf Idf3 Sides = record { first = 10; count = 3 }
+spanOf Idf3 Layers = record { first = 13; count = 5 }
+spanOf Idf3 Plates = record { first = 18; count = 2 }
+spanOf Idf3 Statuses = record { first = 20; count = 4 }
 
--- a row that holds no word
-unfoldable pub blankRow : List ℕ
-blankRow = ascii "                "
+-- a row that holds no word, and one that holds no keyword
+unfoldable pub noWord : List ℕ
+noWord = ascii "                "
 
--- the row of a word by its place, and of a section's name
+unfoldable pub noKeyword : List ℕ
+noKeyword = ascii "                    "
+
+-- the row of a word by its place
 unfoldable pub wordRow : Rules → Words → ℕ → List ℕ
-wordRow v l n = cond (ltb n (spanOf v l .count)) (getD rowTable (spanOf v l .first + n) []) blankRow
+wordRow v l n = cond (ltb n (spanOf v l .count)) (getD wordTable (spanOf v l .first + n) []) noWord
 
-unfoldable pub nameRow : ℕ → List ℕ
-nameRow s = cond (eqb s 0) blankRow (cond (ltb 15 s) blankRow (getD rowTable (s - 1) []))
+-- the row of section s among those from an index on; of its name, and of its closing form
+unfoldable pub keywordRow : ℕ → ℕ → List ℕ
+keywordRow first s = cond (eqb s 0 || ltb 15 s) noKeyword (getD keywordTable (first + s - 1) [])
 
--- begins with END_, in any letter case
-unfoldable pub endsName : List ℕ → Bool
-endsName (a ∷ b ∷ c ∷ d ∷ s) = (eqb (capital a) 69 && eqb (capital b) 78) && (eqb (capital c) 68 && eqb (capital d) 95)
-endsName (a ∷ b ∷ c ∷ []) = false
-endsName (a ∷ b ∷ []) = false
-endsName (a ∷ []) = false
-endsName [] = false
+abbrev pub nameRow : ℕ → List ℕ
+nameRow s = keywordRow 0 s
+
+abbrev pub closingRow : ℕ → List ℕ
+closingRow s = keywordRow 15 s
 
 abbrev pub closingBy : WordAnswer → Keyword
 closingBy (At n) = Closing (n + 1)
 closingBy Nowhere = Unknown
 
 -- what a keyword without its period does where it does not open a section
-unfoldable pub closingOf : List ℕ → Keyword
-closingOf s = cond (endsName s) (closingBy (sought true 0 (take 15 rowTable) (drop 4 s))) Unknown
+abbrev pub closingOf : List ℕ → Keyword
+closingOf s = closingBy (sought true 0 (take 15 (drop 15 keywordTable)) s)

@@ -1,5 +1,6 @@
-// Keywords and words, each looked up in a table of fixed byte strings, padded with spaces.
-mod table;
+// Section keywords and words, each looked up in a table of fixed byte strings, padded with spaces.
+mod keywords;
+mod words;
 
 use form::Keyword;
 use law::Rules;
@@ -12,7 +13,7 @@ ghost use lib.ListN.{getD, take, drop};
 ghost use Rattle.form.specs.Compare.{capital, folded, placeOf};
 ghost use Rattle.law.specs.Words.{sameBytes, propWord, wordsOf};
 ghost use Rattle.form.specs.Reading.{keywordOf};
-ghost use Rattle.form_words.specs.Padded.{keyed, matched, headOf, rowTable, sought, found, spanOf, blankRow, wordRow, nameRow, endsName, closingOf};
+ghost use Rattle.form_words.specs.Padded.{keyed, matched, keywordTable, wordTable, sought, found, spanOf, wordRow, keywordRow, nameRow, closingRow, closingOf};
 
 // The place of a word in its list, from 0.
 pub enum WordAnswer {
@@ -41,10 +42,10 @@ fn letter(b: u8, fold: bool) -> u8
 }
 
 // Whether bytes, letters folded or not, are those of a padded row.
-fn matches(row: [u8; 16], s: &[u8], fold: bool) -> bool
-    ensures { λ r. ⌜ r ≡ matched fold row (now (s .entry)) ⌝ }
+fn matches(row: &[u8], s: &[u8], fold: bool) -> bool
+    ensures { λ r. ⌜ r ≡ matched fold (now (row .entry)) (now (s .entry)) ⌝ }
 {
-    if 16 < s.len() {
+    if row.len() < s.len() {
         return false;
     }
     let mut i = 0;
@@ -55,42 +56,43 @@ fn matches(row: [u8; 16], s: &[u8], fold: bool) -> bool
         }
         i += 1;
     }
-    if i == 16 {
+    if i == row.len() {
         return true;
     }
     row[i] == 32
 }
 
-// The first byte as it is compared, 0 where there is none.
-fn head(s: &[u8], fold: bool) -> u8
-    ensures { λ r. ⌜ r ≡ headOf fold (now (s .entry)) ⌝ }
+// A byte as it is compared, 0 where there is none.
+fn byte_at(s: &[u8], at: usize, fold: bool) -> u8
+    ensures { λ r. ⌜ r ≡ keyed fold (getD (now (s .entry)) at 0) ⌝ }
 {
-    if s.len() == 0 {
+    if s.len() <= at {
         return 0;
     }
-    letter(s[0], fold)
+    letter(s[at], fold)
 }
 
-// Whether bytes are those of a row of the table; b is the first of them, which tells most rows apart.
-fn is_row(i: usize, b: u8, s: &[u8], fold: bool) -> bool
-    requires { ⌜ (i < 39) × (b ≡ headOf fold (now s)) ⌝ }
-    ensures { λ r. ⌜ r ≡ matched fold (getD rowTable i []) (now (s .entry)) ⌝ }
+// Whether bytes are those of a row of words; b is the first of them, which tells most rows apart.
+fn is_word(i: usize, b: u8, s: &[u8]) -> bool
+    requires { ⌜ (i < 24) × (b ≡ keyed false (getD (now s) 0 0)) ⌝ }
+    ensures { λ r. ⌜ r ≡ matched false (getD wordTable i []) (now (s .entry)) ⌝ }
 {
-    if table::initial_at(i) != b {
+    if words::initial_at(i) != b {
         return false;
     }
-    matches(table::row_at(i), s, fold)
+    let row = words::row_at(i);
+    matches(&row, s, false)
 }
 
-// The place from 0 of the bytes among some rows of the table.
-fn seek(first: usize, count: usize, s: &[u8], fold: bool) -> WordAnswer
-    requires { ⌜ first + count ≤ 39 ⌝ }
-    ensures { λ r. ⌜ r ≡ sought fold 0 (take count (drop first rowTable)) (now (s .entry)) ⌝ }
+// The place from 0 of the bytes among some rows of words.
+fn seek_word(first: usize, count: usize, s: &[u8]) -> WordAnswer
+    requires { ⌜ first + count ≤ 24 ⌝ }
+    ensures { λ r. ⌜ r ≡ sought false 0 (take count (drop first wordTable)) (now (s .entry)) ⌝ }
 {
-    let b = head(s, fold);
+    let b = byte_at(s, 0, false);
     let mut i = 0;
     while i < count {
-        if is_row(first + i, b, s, fold) {
+        if is_word(first + i, b, s) {
             return WordAnswer::At(i as u64);
         }
         i += 1;
@@ -104,36 +106,24 @@ fn rows_of(v: Rules, l: Words) -> Span
 {
     match v {
         Rules::Idf3 => match l {
-            Words::FileTypes => Span {
-                first: 15,
-                count: 3,
-            },
-            Words::Units => Span {
-                first: 18,
-                count: 2,
-            },
-            Words::Owners => Span {
-                first: 20,
-                count: 3,
-            },
-            Words::Faces => Span {
-                first: 23,
-                count: 2,
-            },
+            Words::FileTypes => Span { first: 0, count: 3 },
+            Words::Units => Span { first: 3, count: 2 },
+            Words::Owners => Span { first: 5, count: 3 },
+            Words::Faces => Span { first: 8, count: 2 },
             Words::Sides => Span {
-                first: 25,
+                first: 10,
                 count: 3,
             },
             Words::Layers => Span {
-                first: 28,
+                first: 13,
                 count: 5,
             },
             Words::Plates => Span {
-                first: 33,
+                first: 18,
                 count: 2,
             },
             Words::Statuses => Span {
-                first: 35,
+                first: 20,
                 count: 4,
             },
         },
@@ -147,14 +137,7 @@ pub fn place_of(v: Rules, l: Words, s: &[u8]) -> WordAnswer
     let rows = rows_of(v, l);
     let first = rows.first;
     let count = rows.count;
-    seek(first, count, s, false)
-}
-
-// A row that holds no word.
-fn blank() -> [u8; 16]
-    ensures { λ r. ⌜ r ≡ blankRow ⌝ }
-{
-    *b"                "
+    seek_word(first, count, s)
 }
 
 // The row of a word, by its place in its list; a blank one where the list has no such place.
@@ -165,57 +148,55 @@ pub fn word_row(v: Rules, l: Words, n: u64) -> [u8; 16]
     let first = rows.first;
     let count = rows.count;
     if n < count as u64 {
-        return table::row_at(first + n as usize);
+        return words::row_at(first + n as usize);
     }
-    blank()
-}
-
-// The row of a section's name; a blank one where there is no such section.
-pub fn name_row(s: u64) -> [u8; 16]
-    ensures { λ r. ⌜ r ≡ nameRow s ⌝ }
-{
-    if s == 0 {
-        return blank();
-    }
-    if 15 < s {
-        return blank();
-    }
-    table::row_at(s as usize - 1)
+    *b"                "
 }
 
 // Whether a bare field is the word before a property's name.
 pub fn is_prop(s: &[u8]) -> bool
     ensures { λ r. ⌜ r ≡ sameBytes propWord (now (s .entry)) ⌝ }
 {
-    matches(*b"PROP            ", s, false)
+    matches(b"PROP", s, false)
 }
 
-// The section that bytes name, in any letter case.
-fn section_named(s: &[u8]) -> WordAnswer
-    ensures { λ r. ⌜ r ≡ sought true 0 (take 15 (drop 0 rowTable)) (now (s .entry)) ⌝ }
+// Whether bytes, in any letter case, are those of a row of keywords; a and b are the first and the fifth, which tell most rows apart.
+fn is_keyword(i: usize, a: u8, b: u8, s: &[u8]) -> bool
+    requires { ⌜ (i < 30) × (a ≡ keyed true (getD (now s) 0 0)) × (b ≡ keyed true (getD (now s) 4 0)) ⌝ }
+    ensures { λ r. ⌜ r ≡ matched true (getD keywordTable i []) (now (s .entry)) ⌝ }
 {
-    seek(0, 15, s, true)
-}
-
-// Whether bytes begin with END_, in any letter case.
-fn ends_name(s: &[u8]) -> bool
-    ensures { λ r. ⌜ r ≡ endsName (now (s .entry)) ⌝ }
-{
-    if s.len() < 4 {
+    if keywords::initial_at(i) != a {
         return false;
     }
-    ((capital_of(s[0]) == 69) & (capital_of(s[1]) == 78))
-        & ((capital_of(s[2]) == 68) & (capital_of(s[3]) == 95))
+    if keywords::fifth_at(i) != b {
+        return false;
+    }
+    let row = keywords::row_at(i);
+    matches(&row, s, true)
+}
+
+// The place from 0 of the bytes, in any letter case, among fifteen rows of keywords.
+fn seek_keyword(first: usize, s: &[u8]) -> WordAnswer
+    requires { ⌜ first + 15 ≤ 30 ⌝ }
+    ensures { λ r. ⌜ r ≡ sought true 0 (take 15 (drop first keywordTable)) (now (s .entry)) ⌝ }
+{
+    let a = byte_at(s, 0, true);
+    let b = byte_at(s, 4, true);
+    let mut i = 0;
+    while i < 15 {
+        if is_keyword(first + i, a, b, s) {
+            return WordAnswer::At(i as u64);
+        }
+        i += 1;
+    }
+    WordAnswer::Nowhere
 }
 
 // What a keyword does, its period left off, where it does not open a section.
 fn closing(s: &[u8]) -> Keyword
     ensures { λ r. ⌜ r ≡ closingOf (now (s .entry)) ⌝ }
 {
-    if !ends_name(s) {
-        return Keyword::Unknown;
-    }
-    match section_named(&s[4..]) {
+    match seek_keyword(keywords::CLOSING_FORMS, s) {
         WordAnswer::At(n) => Keyword::Closing(n + 1),
         WordAnswer::Nowhere => Keyword::Unknown,
     }
@@ -228,8 +209,33 @@ pub fn read_keyword(s: &[u8]) -> Keyword
     if !text::begins_with(s, 46) {
         return Keyword::Unknown;
     }
-    match section_named(&s[1..]) {
+    match seek_keyword(keywords::NAMES, &s[1..]) {
         WordAnswer::At(n) => Keyword::Opening(n + 1),
         WordAnswer::Nowhere => closing(&s[1..]),
     }
+}
+
+// The row of a section among fifteen rows of keywords; a blank one where there is no such section.
+fn keyword_row(first: usize, s: u64) -> [u8; 20]
+    requires { ⌜ first + 15 ≤ 30 ⌝ }
+    ensures { λ r. ⌜ r ≡ keywordRow first s ⌝ }
+{
+    if (s == 0) | (15 < s) {
+        return *b"                    ";
+    }
+    keywords::row_at(first + s as usize - 1)
+}
+
+// The row of a section's name.
+pub fn name_row(s: u64) -> [u8; 20]
+    ensures { λ r. ⌜ r ≡ nameRow s ⌝ }
+{
+    keyword_row(keywords::NAMES, s)
+}
+
+// The row of a section's closing form.
+pub fn closing_row(s: u64) -> [u8; 20]
+    ensures { λ r. ⌜ r ≡ closingRow s ⌝ }
+{
+    keyword_row(keywords::CLOSING_FORMS, s)
 }

@@ -94,7 +94,7 @@ fn word_fits(v: Rules, l: Words, z: i64) -> bool
         return false;
     }
     let row = form_words::word_row(v, l, number::magnitude(z));
-    write_texts::padded_len(row) != 0
+    write_texts::padded_len(&row) != 0
 }
 
 // Whether columns hold a value of a type, the second one looked at for a text or a date only.

@@ -20,7 +20,7 @@ use Rattle.law.specs.Words.{propWord, sameBytes, wordAt}
 use Rattle.law.specs.Kinds.{sectionOf, lineOf, roleOf, lastKind}
 use Rattle.law.specs.Layouts.{Front, keyword, prop, plain, Layout, layoutOf, typesBy, typesOf}
 use Rattle.form_layouts.specs.Letters.{widthOf, knownBy, isKind}
-use Rattle.form_words.specs.Padded.{trimmed, rowTable, blankRow, nameRow}
+use Rattle.form_words.specs.Padded.{trimmed, keywordTable, noKeyword, keywordRow}
 use Rattle.law.specs.Fits.{isEmpty}
 use Rattle.law.specs.declared.Rules.{Rules}
 use Rattle.law.specs.declared.Rules.the-variants.{Idf3}
@@ -92,7 +92,7 @@ abbrev right : Rules → ℕ → Bool
 right v k = rightBy (layoutOf v k) (roleNumber (roleOf v k)) (sectionOf v k)
 
 table-right : (v : Rules) → allBelow (suc lastKind) (right v) ≡ true
-unfolding layoutOf roleOf sectionOf lineOf sections sectionNames wordAt trimmed nameRow rowTable blankRow sameBytes isEmpty
+unfolding layoutOf roleOf sectionOf lineOf sections sectionNames wordAt trimmed keywordRow keywordTable noKeyword sameBytes isEmpty
 table-right Idf3 = refl
 
 beyond : (v : Rules) (k : ℕ) → leb k lastKind ≡ false → right v k ≡ true

@@ -2,7 +2,7 @@
 use Prim.Native.Nat.{ℕ, suc, _+_, _-_, _^_, _≤_, _<_}
 use mathlib.Core.Path.{_≡_, refl, sym, ap, _∙_}
 use mathlib.Core.List.{List, [], _∷_, _++_}
-use mathlib.Core.Bool.{Bool, true, false, cond, _||_}
+use mathlib.Core.Bool.{Bool, true, false, cond}
 use native.Mathlib.Omega.{arith}
 use mir.Syntax.{w64}
 use mir.Val.{Fits, SFits}
@@ -21,7 +21,7 @@ use Rattle.number_print.specs.Printing.{Wrote}
 use Rattle.law.specs.Printing.{printedCount, printedInteger}
 use Rattle.number_print.proofs.PrintLaws.{wrote-length, wrote-more}
 use Rattle.law.specs.Kinds.{sectionOf, roleOf}
-use Rattle.form_words.specs.Padded.{trimmed, blankRow, nameRow, wordRow}
+use Rattle.form_words.specs.Padded.{trimmed, noKeyword, nameRow, closingRow, wordRow}
 use Rattle.law.specs.Values.{number}
 use Rattle.law.specs.Fits.{isEmpty, largest, within, fits}
 use Rattle.law.proofs.LargestLaws.{largest-most}
@@ -67,7 +67,7 @@ module _ (n : ℕ) where
   pub mark-prop : n ≡ 5 → ascii "PROP" ≡ markOf n
   mark-prop h = rw h
 
-  pub mark-close : n ≡ 9 → ascii ".END_" ≡ markOf n
+  pub mark-close : n ≡ 9 → ascii "." ≡ markOf n
   mark-close h = rw h
 
   pub mark-none : (n ≡ 0 → ⊥) → (n ≡ 5 → ⊥) → (n ≡ 9 → ⊥) → [] ≡ markOf n
@@ -79,7 +79,7 @@ module _ (n : ℕ) where
   pub mark-len-prop : n ≡ 5 → 4 ≡ length (markOf n)
   mark-len-prop h = rw h
 
-  pub mark-len-close : n ≡ 9 → 5 ≡ length (markOf n)
+  pub mark-len-close : n ≡ 9 → 1 ≡ length (markOf n)
   mark-len-close h = rw h
 
   pub mark-len-none : (n ≡ 0 → ⊥) → (n ≡ 5 → ⊥) → (n ≡ 9 → ⊥) → 0 ≡ length (markOf n)
@@ -88,22 +88,25 @@ module _ (n : ℕ) where
   pub mark-put-none : (o : List ℕ) (at : ℕ) → (n ≡ 0 → ⊥) → (n ≡ 5 → ⊥) → (n ≡ 9 → ⊥) → Wrote o o at at (markOf n)
   mark-put-none o at a b c = rw (sym (mark-none a b c)) (record { is = refl; next = omega arith })
 
-  mark-short : length (markOf n) ≤ 5
+  mark-short : length (markOf n) ≤ 4
   mark-short = go (eqb n 0) (eqb n 9) (eqb n 5)
     where
-      go : (a b c : Bool) → length (cond a (ascii ".") (cond b (ascii ".END_") (cond c (ascii "PROP") []))) ≤ 5
+      go : (a b c : Bool) → length (cond a (ascii ".") (cond b (ascii ".") (cond c (ascii "PROP") []))) ≤ 4
       go true b c = omega arith
       go false true c = omega arith
       go false false true = omega arith
       go false false false = omega arith
 
-  -- names
-  pub name-there : (s : ℕ) (r : List ℕ) → (eqb n 0 || eqb n 9) ≡ true → r ≡ nameRow s → r ≡ nameAt n s
-  name-there s r h e = rw h e
+  -- names and closing forms
+  pub name-open : (s : ℕ) (r : List ℕ) → n ≡ 0 → r ≡ nameRow s → r ≡ nameAt n s
+  name-open s r h e = rw h e
 
-  pub name-none : (s : ℕ) → (eqb n 0 || eqb n 9) ≡ false → ascii "                " ≡ nameAt n s
-  unfolding blankRow
-  name-none s h = rw h
+  pub name-close : (s : ℕ) (r : List ℕ) → n ≡ 9 → r ≡ closingRow s → r ≡ nameAt n s
+  name-close s r h e = rw h e
+
+  pub name-none : (s : ℕ) → (n ≡ 0 → ⊥) → (n ≡ 9 → ⊥) → ascii "                    " ≡ nameAt n s
+  unfolding noKeyword
+  name-none s a b = rw (ne-eqb n 0 a, ne-eqb n 9 b)
 
 trimmed-short : (s : List ℕ) → length (trimmed s) ≤ length s
 unfolding trimmed
@@ -137,40 +140,46 @@ module _ (role s n m : ℕ) (e : m ≡ length (markOf role)) where
   front-length : (m ≡ 0 → ⊥) → length (frontText role s n) ≡ length (markOf role) + length (trimmed (nameAt role s)) + 1
   front-length h = omega (arith, ap length (front-some h), length-append (markOf role) (trimmed (nameAt role s) ++ behindOf n ∷ []), length-append (trimmed (nameAt role s)) (behindOf n ∷ []))
 
-module _ (v : Rules) (k n m role s : ℕ) (i : role ≡ roleNumber (roleOf v k)) (j : s ≡ sectionOf v k) (e : m ≡ length (markOf role)) where
-  moved : frontText role s n ≡ frontText (roleNumber (roleOf v k)) (sectionOf v k) n
-  moved = rw (i, j)
+module _ (v : Rules) (k n m role : ℕ) (i : role ≡ roleNumber (roleOf v k)) (e : m ≡ length (markOf role)) where
+  abbrev s : ℕ
+  s = sectionOf v k
 
-  pub front-len-none : m ≡ 0 → 0 ≡ length (frontText (roleNumber (roleOf v k)) (sectionOf v k) n)
+  moved : frontText role s n ≡ frontText (roleNumber (roleOf v k)) s n
+  moved = rw i
+
+  pub front-len-none : m ≡ 0 → 0 ≡ length (frontText (roleNumber (roleOf v k)) s n)
   front-len-none h = sym (ap length (front-none role s n m e h)) ∙ ap length moved
 
-  pub front-put-none : (o : List ℕ) (at : ℕ) → m ≡ 0 → Wrote o o at at (frontText (roleNumber (roleOf v k)) (sectionOf v k) n)
+  pub front-put-none : (o : List ℕ) (at : ℕ) → m ≡ 0 → Wrote o o at at (frontText (roleNumber (roleOf v k)) s n)
   front-put-none o at h = rw (sym moved ∙ front-none role s n m e h) (record { is = refl; next = omega arith })
 
-  pub mark-room : (o : List ℕ) (at : ℕ) → (m ≡ 0 → ⊥) → at + length (frontText (roleNumber (roleOf v k)) (sectionOf v k) n) ≤ length o → at + length (markOf role) ≤ length o
+  pub mark-room : (o : List ℕ) (at : ℕ) → (m ≡ 0 → ⊥) → at + length (frontText (roleNumber (roleOf v k)) s n) ≤ length o → at + length (markOf role) ≤ length o
   mark-room o at h l = omega (arith, ap length moved, front-length role s n m e h)
 
-  module _ (row : List ℕ) (f : row ≡ nameAt role s) where
-    pub front-len-mark : length row ≡ 16 → (x : ℕ) → x ≡ length (trimmed row) → Fits w64 (m + x)
+  module _ (t : ℕ) (j : t ≡ s) (row : List ℕ) (f : row ≡ nameAt role t) where
+    named : row ≡ nameAt role s
+    named = rw j at f
+
+    pub front-len-mark : length row ≡ 20 → (x : ℕ) → x ≡ length (trimmed row) → Fits w64 (m + x)
     front-len-mark w x g = omega (arith, e, mark-short role, trimmed-short row)
 
-    pub front-len-fits : length row ≡ 16 → (x : ℕ) → x ≡ length (trimmed row) → Fits w64 (m + x + 1)
+    pub front-len-fits : length row ≡ 20 → (x : ℕ) → x ≡ length (trimmed row) → Fits w64 (m + x + 1)
     front-len-fits w x g = omega (arith, e, mark-short role, trimmed-short row)
 
-    pub front-len-some : (x : ℕ) → (m ≡ 0 → ⊥) → x ≡ length (trimmed row) → m + x + 1 ≡ length (frontText (roleNumber (roleOf v k)) (sectionOf v k) n)
-    front-len-some x h g = omega (arith, ap length moved, front-length role s n m e h, e, g, ap (λ (l : List ℕ). length (trimmed l)) f)
+    pub front-len-some : (x : ℕ) → (m ≡ 0 → ⊥) → x ≡ length (trimmed row) → m + x + 1 ≡ length (frontText (roleNumber (roleOf v k)) s n)
+    front-len-some x h g = omega (arith, ap length moved, front-length role s n m e h, e, g, ap (λ (l : List ℕ). length (trimmed l)) named)
 
-    module _ (o p : List ℕ) (at a : ℕ) (h : m ≡ 0 → ⊥) (l : at + length (frontText (roleNumber (roleOf v k)) (sectionOf v k) n) ≤ length o) (w : Wrote o p at a (markOf role)) where
+    module _ (o p : List ℕ) (at a : ℕ) (h : m ≡ 0 → ⊥) (l : at + length (frontText (roleNumber (roleOf v k)) s n) ≤ length o) (w : Wrote o p at a (markOf role)) where
       pub name-room : a + length (trimmed row) ≤ length p
-      name-room = omega (arith, ap length moved, front-length role s n m e h, w .next, wrote-length w, ap (λ (l : List ℕ). length (trimmed l)) f)
+      name-room = omega (arith, ap length moved, front-length role s n m e h, w .next, wrote-length w, ap (λ (l : List ℕ). length (trimmed l)) named)
 
       module _ (q : List ℕ) (b : ℕ) (x : Wrote p q a b (trimmed row)) where
         pub behind-room : b < length q
-        behind-room = omega (arith, ap length moved, front-length role s n m e h, w .next, x .next, wrote-length w, wrote-length x, ap (λ (l : List ℕ). length (trimmed l)) f)
+        behind-room = omega (arith, ap length moved, front-length role s n m e h, w .next, x .next, wrote-length w, wrote-length x, ap (λ (l : List ℕ). length (trimmed l)) named)
 
-        pub front-put : (z : List ℕ) (c d : ℕ) → d ≡ behindOf n → Wrote q z b c (d ∷ []) → Wrote o z at c (frontText (roleNumber (roleOf v k)) (sectionOf v k) n)
+        pub front-put : (z : List ℕ) (c d : ℕ) → d ≡ behindOf n → Wrote q z b c (d ∷ []) → Wrote o z at c (frontText (roleNumber (roleOf v k)) s n)
         front-put z c d g y =
-            let u : Wrote p z a c (trimmed (nameAt role s) ++ behindOf n ∷ []) = rw (sym f, sym g) (wrote-more x y) in
+            let u : Wrote p z a c (trimmed (nameAt role s) ++ behindOf n ∷ []) = rw (sym named, sym g) (wrote-more x y) in
             rw (sym moved ∙ front-some role s n m e h) (wrote-more w u)
 
 -- a text or a date by its start and its length

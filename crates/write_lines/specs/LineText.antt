@@ -1,7 +1,7 @@
 -- The canonical line of a row: what stands before its fields, its fields, a byte behind each; and lengths up to the size limit.
 use Prim.Native.Nat.{ℕ, _+_}
 use mathlib.Core.List.{List, [], _∷_, _++_}
-use mathlib.Core.Bool.{cond, _||_}
+use mathlib.Core.Bool.{cond}
 use lib.Dec.{ltb, eqb}
 use lib.IntN.{ℤ}
 use lib.ListN.{length}
@@ -9,7 +9,7 @@ use Rattle.rows.specs.Columns.{columnAt}
 use Rattle.law.specs.Bytes.{ascii}
 use Rattle.law.specs.Words.{propWord}
 use Rattle.form_layouts.specs.Letters.{widthOf}
-use Rattle.form_words.specs.Padded.{trimmed, blankRow, nameRow}
+use Rattle.form_words.specs.Padded.{trimmed, noKeyword, nameRow, closingRow}
 use Rattle.law.specs.Fits.{under, isEmpty}
 use Rattle.law.specs.declared.Rules.{Rules}
 use Rattle.law.specs.declared.Context.{Context}
@@ -33,13 +33,13 @@ upTo n = cond (ltb limit n) (limit + 1) n
 
 -- piece by piece
 
--- by the number of a line's role: what a keyword begins with, or PROP
+-- by the number of a line's role: the period of a keyword, or PROP
 abbrev pub markOf : ℕ → List ℕ
-markOf n = cond (eqb n 0) (ascii ".") (cond (eqb n 9) (ascii ".END_") (cond (eqb n 5) propWord []))
+markOf n = cond (eqb n 0) (ascii ".") (cond (eqb n 9) (ascii ".") (cond (eqb n 5) propWord []))
 
--- the name of section s in its opening and its closing line, as a padded row
+-- behind the period: the name of section s in its opening line, its closing form in its closing line, as padded rows
 abbrev pub nameAt : ℕ → ℕ → List ℕ
-nameAt n s = cond (eqb n 0 || eqb n 9) (nameRow s) blankRow
+nameAt n s = cond (eqb n 0) (nameRow s) (cond (eqb n 9) (closingRow s) noKeyword)
 
 -- the byte behind a field, by the number of those that follow it
 abbrev pub behindOf : ℕ → ℕ

@@ -15,19 +15,19 @@ pub(crate) fn behind(n: usize) -> u8
     if n == 0 { 10 } else { 32 }
 }
 
-// How many bytes a keyword's mark or PROP takes.
+// How many bytes a keyword's period or PROP takes.
 fn mark_len(role: u64) -> usize
     ensures { λ r. ⌜ r ≡ length (markOf role) ⌝ }
 {
     match role {
         0 => 1,
         5 => 4,
-        9 => 5,
+        9 => 1,
         _ => 0,
     }
 }
 
-// A keyword's mark, or PROP.
+// A keyword's period, or PROP.
 fn put_mark(out: &mut [u8], at: usize, role: u64) -> usize
     requires { ⌜ at + length (markOf role) ≤ length (now out) ⌝ }
     ensures { λ r. ⌜ Wrote (now (out .entry)) (now (out .exit)) at r (markOf role) ⌝ }
@@ -35,19 +35,20 @@ fn put_mark(out: &mut [u8], at: usize, role: u64) -> usize
     match role {
         0 => write_texts::put_bytes(out, at, b"."),
         5 => write_texts::put_bytes(out, at, b"PROP"),
-        9 => write_texts::put_bytes(out, at, b".END_"),
+        9 => write_texts::put_bytes(out, at, b"."),
         _ => at,
     }
 }
 
-// A section's name in the keyword lines, as a padded row.
-fn name_at(role: u64, s: u64) -> [u8; 16]
+// What a keyword has behind its period, as a padded row.
+fn name_at(role: u64, s: u64) -> [u8; 20]
     ensures { λ r. ⌜ r ≡ nameAt role s ⌝ }
 {
-    if (role == 0) | (role == 9) {
-        return form_words::name_row(s);
+    match role {
+        0 => form_words::name_row(s),
+        9 => form_words::closing_row(s),
+        _ => *b"                    ",
     }
-    *b"                "
 }
 
 // How many bytes stand before n fields.
@@ -55,12 +56,12 @@ pub(crate) fn front_len(v: Rules, kind: u64, n: usize) -> usize
     ensures { λ r. ⌜ r ≡ length (frontText (roleNumber (roleOf v kind)) (sectionOf v kind) n) ⌝ }
 {
     let role = order_kinds::role_of(v, kind);
-    let s = form_layouts::section_of(v, kind);
     let m = mark_len(role);
     if m == 0 {
         return 0;
     }
-    m + write_texts::padded_len(name_at(role, s)) + 1
+    let name = name_at(role, form_layouts::section_of(v, kind));
+    m + write_texts::padded_len(&name) + 1
 }
 
 // What stands before n fields.
@@ -69,11 +70,11 @@ pub(crate) fn put_front(out: &mut [u8], at: usize, v: Rules, kind: u64, n: usize
     ensures { λ r. ⌜ Wrote (now (out .entry)) (now (out .exit)) at r (frontText (roleNumber (roleOf v kind)) (sectionOf v kind) n) ⌝ }
 {
     let role = order_kinds::role_of(v, kind);
-    let s = form_layouts::section_of(v, kind);
     if mark_len(role) == 0 {
         return at;
     }
+    let name = name_at(role, form_layouts::section_of(v, kind));
     let a = put_mark(out, at, role);
-    let b = write_texts::put_padded(out, a, name_at(role, s));
+    let b = write_texts::put_padded(out, a, &name);
     number_print::put_byte(out, b, behind(n))
 }

@@ -126,9 +126,6 @@ module _ (row : List ℕ) (i : ℕ) (t : Trimming row i) where
   unfolding trimmed
   trim-over h = let z : length (trimmed (drop i row)) ≡ 0 = rw (at-end row i h) in omega (arith, t .left, z)
 
-  pub trim-all : length row ≡ 16 → 16 ≤ i → i ≡ length (trimmed row)
-  trim-all e h = trim-over (omega arith)
-
 -- a row's front is what stands before its padding
 front-trimmed : (row : List ℕ) → take (length (trimmed row)) row ≡ trimmed row
 unfolding trimmed

@@ -72,11 +72,11 @@ pub fn put_text(out: &mut [u8], at: usize, s: &[u8]) -> usize
 }
 
 // How many bytes stand before a row's padding.
-pub fn padded_len(row: [u8; 16]) -> usize
-    ensures { λ r. ⌜ r ≡ length (trimmed row) ⌝ }
+pub fn padded_len(row: &[u8]) -> usize
+    ensures { λ r. ⌜ r ≡ length (trimmed (now (row .entry))) ⌝ }
 {
     let mut i = 0;
-    while i < 16 {
+    while i < row.len() {
         if row[i] == 32 {
             return i;
         }
@@ -86,11 +86,10 @@ pub fn padded_len(row: [u8; 16]) -> usize
 }
 
 // What stands before a row's padding.
-pub fn put_padded(out: &mut [u8], at: usize, row: [u8; 16]) -> usize
-    requires { ⌜ at + length (trimmed row) ≤ length (now out) ⌝ }
-    ensures { λ r. ⌜ Wrote (now (out .entry)) (now (out .exit)) at r (trimmed row) ⌝ }
+pub fn put_padded(out: &mut [u8], at: usize, row: &[u8]) -> usize
+    requires { ⌜ at + length (trimmed (now row)) ≤ length (now out) ⌝ }
+    ensures { λ r. ⌜ Wrote (now (out .entry)) (now (out .exit)) at r (trimmed (now (row .entry))) ⌝ }
 {
     let n = padded_len(row);
-    let s: &[u8] = &row;
-    put_bytes(out, at, &s[0..n])
+    put_bytes(out, at, &row[0..n])
 }

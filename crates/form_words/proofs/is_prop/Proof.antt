@@ -1,10 +1,13 @@
 -- `form_words::is_prop` meets its contract. Assumes nothing.
 use borrow.Author.Needs.{needs}
-use Rattle.form_words.proofs.NameLaws.{prop-is}
+use Rattle.form_words.proofs.SeekLaws.{prop-is}
 use Rattle.form_words.proofs.is_prop.Statement.{statement}
 use Rattle.form_words.proofs.is_prop.Tie as tie
 
 ruleset laws = (prop-is, needs)
+
+slice-aggregate-matches : tie.Need-slice-aggregate-matches
+slice-aggregate-matches c = search laws
 
 matches-requires : tie.Need-matches-requires
 matches-requires c κs = search laws
@@ -15,4 +18,4 @@ returns c = search laws
 pub is-prop-spec : {M : Type 1} → statement M
 is-prop-spec =
     tie.close
-    (tie.spec matches-requires returns)
+    (tie.spec slice-aggregate-matches matches-requires returns)

@@ -3,7 +3,6 @@ use Prim.Native.Nat.{ℕ, _-_, _≤_, _<_}
 use mathlib.Core.Path.{_≡_, sym}
 use mathlib.Core.Bool.{Bool, false}
 use mathlib.Core.List.{List}
-use native.Mathlib.Omega.{arith}
 use borrow.Author.Needs.{needs}
 use lib.ListN.{length, drop}
 use Rattle.form_words.specs.Padded.{matched}
@@ -12,13 +11,13 @@ use Rattle.form_words.proofs.matches.Statement.{statement}
 use Rattle.form_words.proofs.matches.Tie as tie
 
 abbrev Inv-loop : tie.InvT-loop
-Inv-loop s fold row i₀ i = (i ≤ length s) × (i ≤ 16) × (length row ≡ 16) × (matched fold (drop i row) (drop i s) ≡ matched fold row s)
+Inv-loop row s fold i₀ i = (i ≤ length s) × (length s ≤ length row) × (matched fold (drop i row) (drop i s) ≡ matched fold row s)
 
 abbrev μ-loop : tie.MeasureT-loop
-μ-loop s fold row i₀ i = length s - i
+μ-loop row s fold i₀ i = length s - i
 
-long : (fold : Bool) (row s : List ℕ) → length row ≡ 16 → 16 < length s → false ≡ matched fold row s
-long fold row s n h = sym (matched-long fold row s (omega arith))
+long : (fold : Bool) (row s : List ℕ) → length row < length s → false ≡ matched fold row s
+long fold row s h = sym (matched-long fold row s h)
 
 ruleset laws = (long, match-stop, match-more, match-full, match-over, needs)
 
@@ -34,11 +33,11 @@ shared-slice-read-letter c = search laws
 letter-requires : tie.Need-letter-requires Inv-loop μ-loop
 letter-requires c κs = search laws
 
-array-read-if2 : tie.Need-array-read-if2 Inv-loop μ-loop
-array-read-if2 c = search laws
+shared-slice-read-if2 : tie.Need-shared-slice-read-if2 Inv-loop μ-loop
+shared-slice-read-if2 c = search laws
 
-array-read-if2-2 : tie.Need-array-read-if2-2 Inv-loop μ-loop
-array-read-if2-2 c = search laws
+shared-slice-read-if2-2 : tie.Need-shared-slice-read-if2-2 Inv-loop μ-loop
+shared-slice-read-if2-2 c = search laws
 
 returns-2 : tie.Need-returns-2 Inv-loop μ-loop
 returns-2 c = search laws
@@ -55,8 +54,8 @@ loop-again c = search laws
 returns-3 : tie.Need-returns-3 Inv-loop μ-loop
 returns-3 c = search laws
 
-array-read-result : tie.Need-array-read-result Inv-loop μ-loop
-array-read-result c = search laws
+shared-slice-read-result : tie.Need-shared-slice-read-result Inv-loop μ-loop
+shared-slice-read-result c = search laws
 
 returns-4 : tie.Need-returns-4 Inv-loop μ-loop
 returns-4 c = search laws
@@ -64,4 +63,4 @@ returns-4 c = search laws
 pub matches-spec : {M : Type 1} → statement M
 matches-spec =
     tie.close
-    (tie.spec Inv-loop μ-loop returns loop-holds shared-slice-read-letter letter-requires array-read-if2 array-read-if2-2 returns-2 add-i loop-less loop-again returns-3 array-read-result returns-4)
+    (tie.spec Inv-loop μ-loop returns loop-holds shared-slice-read-letter letter-requires shared-slice-read-if2 shared-slice-read-if2-2 returns-2 add-i loop-less loop-again returns-3 shared-slice-read-result returns-4)

@@ -1,6 +1,6 @@
 -- `form_words::read_keyword` meets its contract. Assumes nothing.
 use borrow.Author.Needs.{needs}
-use Rattle.form_words.proofs.NameLaws.{number-fits, period-long, key-none, key-open, key-close}
+use Rattle.form_words.proofs.KeywordLaws.{number-fits, period-long, key-none, key-open, key-close}
 use Rattle.form_words.proofs.read_keyword.Statement.{statement}
 use Rattle.form_words.proofs.read_keyword.Tie as tie
 
@@ -12,17 +12,17 @@ begins-with-requires c κs = search laws
 returns : tie.Need-returns
 returns c = search laws
 
-sub-section-named : tie.Need-sub-section-named
-sub-section-named c = search laws
+sub-seek-keyword : tie.Need-sub-seek-keyword
+sub-seek-keyword c = search laws
 
-part-section-named-start : tie.Need-part-section-named-start
-part-section-named-start c = search laws
+part-seek-keyword-start : tie.Need-part-seek-keyword-start
+part-seek-keyword-start c = search laws
 
-part-section-named-end : tie.Need-part-section-named-end
-part-section-named-end c = search laws
+part-seek-keyword-end : tie.Need-part-seek-keyword-end
+part-seek-keyword-end c = search laws
 
-section-named-requires : tie.Need-section-named-requires
-section-named-requires c κs = search laws
+seek-keyword-requires : tie.Need-seek-keyword-requires
+seek-keyword-requires c κs = search laws
 
 enum-known-n : tie.Need-enum-known-n
 enum-known-n c = search laws
@@ -54,4 +54,4 @@ returns-3 c = search laws
 pub read-keyword-spec : {M : Type 1} → statement M
 read-keyword-spec =
     tie.close
-    (tie.spec begins-with-requires returns sub-section-named part-section-named-start part-section-named-end section-named-requires enum-known-n add-t11 enum-told sub-closing part-closing-start part-closing-end closing-requires returns-2 returns-3)
+    (tie.spec begins-with-requires returns sub-seek-keyword part-seek-keyword-start part-seek-keyword-end seek-keyword-requires enum-known-n add-t11 enum-told sub-closing part-closing-start part-closing-end closing-requires returns-2 returns-3)

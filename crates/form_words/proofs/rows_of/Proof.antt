@@ -13,28 +13,28 @@ only : (v : Rules) → v ≡ Idf3
 only Idf3 = refl
 
 module _ (v : Rules) (l : Words) where
-  filetypes : l ≡ FileTypes → record { first = 15; count = 3 } ≡ spanOf v l
+  filetypes : l ≡ FileTypes → record { first = 0; count = 3 } ≡ spanOf v l
   filetypes h = rw (only v, h)
 
-  units : l ≡ Units → record { first = 18; count = 2 } ≡ spanOf v l
+  units : l ≡ Units → record { first = 3; count = 2 } ≡ spanOf v l
   units h = rw (only v, h)
 
-  owners : l ≡ Owners → record { first = 20; count = 3 } ≡ spanOf v l
+  owners : l ≡ Owners → record { first = 5; count = 3 } ≡ spanOf v l
   owners h = rw (only v, h)
 
-  faces : l ≡ Faces → record { first = 23; count = 2 } ≡ spanOf v l
+  faces : l ≡ Faces → record { first = 8; count = 2 } ≡ spanOf v l
   faces h = rw (only v, h)
 
-  sides : l ≡ Sides → record { first = 25; count = 3 } ≡ spanOf v l
+  sides : l ≡ Sides → record { first = 10; count = 3 } ≡ spanOf v l
   sides h = rw (only v, h)
 
-  layers : l ≡ Layers → record { first = 28; count = 5 } ≡ spanOf v l
+  layers : l ≡ Layers → record { first = 13; count = 5 } ≡ spanOf v l
   layers h = rw (only v, h)
 
-  plates : l ≡ Plates → record { first = 33; count = 2 } ≡ spanOf v l
+  plates : l ≡ Plates → record { first = 18; count = 2 } ≡ spanOf v l
   plates h = rw (only v, h)
 
-  statuses : l ≡ Statuses → record { first = 35; count = 4 } ≡ spanOf v l
+  statuses : l ≡ Statuses → record { first = 20; count = 4 } ≡ spanOf v l
   statuses h = rw (only v, h)
 
 ruleset laws = (filetypes, units, owners, faces, sides, layers, plates, statuses, needs)

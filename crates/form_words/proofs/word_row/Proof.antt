@@ -18,13 +18,10 @@ row-at-requires c κs = search laws
 returns : tie.Need-returns
 returns c = search laws
 
-blank-requires : tie.Need-blank-requires
-blank-requires c κs = search laws
-
 returns-2 : tie.Need-returns-2
 returns-2 c = search laws
 
 pub word-row-spec : {M : Type 1} → statement M
 word-row-spec =
     tie.close
-    (tie.spec rows-of-requires add-row-at row-at-requires returns blank-requires returns-2)
+    (tie.spec rows-of-requires add-row-at row-at-requires returns returns-2)

@@ -18,6 +18,9 @@ magnitude-requires c κs = search laws
 word-row-requires : tie.Need-word-row-requires
 word-row-requires c κs = search laws
 
+slice-aggregate-padded-len : tie.Need-slice-aggregate-padded-len
+slice-aggregate-padded-len c = search laws
+
 padded-len-requires : tie.Need-padded-len-requires
 padded-len-requires c κs = search laws
 
@@ -27,4 +30,4 @@ returns-2 c = search laws
 pub word-fits-spec : {M : Type 1} → statement M
 word-fits-spec =
     tie.close
-    (tie.spec is-below-requires returns magnitude-requires word-row-requires padded-len-requires returns-2)
+    (tie.spec is-below-requires returns magnitude-requires word-row-requires slice-aggregate-padded-len padded-len-requires returns-2)

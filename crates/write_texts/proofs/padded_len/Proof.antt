@@ -1,7 +1,8 @@
 -- `write_texts::padded_len` meets its contract. Assumes nothing.
 use Prim.Native.Nat.{_-_}
 use borrow.Author.Needs.{needs}
-use Rattle.write_texts.proofs.WordLaws.{Trimming, trim-start, trim-here, trim-more, trim-all}
+use lib.ListN.{length}
+use Rattle.write_texts.proofs.WordLaws.{Trimming, trim-start, trim-here, trim-more, trim-over}
 use Rattle.write_texts.proofs.padded_len.Statement.{statement}
 use Rattle.write_texts.proofs.padded_len.Tie as tie
 
@@ -9,15 +10,15 @@ abbrev Inv-loop : tie.InvT-loop
 Inv-loop row i₀ i = Trimming row i
 
 abbrev μ-loop : tie.MeasureT-loop
-μ-loop row i₀ i = 16 - i
+μ-loop row i₀ i = length row - i
 
-ruleset laws = (trim-start, trim-here, trim-more, trim-all, needs)
+ruleset laws = (trim-start, trim-here, trim-more, trim-over, needs)
 
 loop-holds : tie.Need-loop-holds Inv-loop μ-loop
 loop-holds c = search laws
 
-array-read-if1 : tie.Need-array-read-if1 Inv-loop μ-loop
-array-read-if1 c = search laws
+shared-slice-read-if1 : tie.Need-shared-slice-read-if1 Inv-loop μ-loop
+shared-slice-read-if1 c = search laws
 
 returns : tie.Need-returns Inv-loop μ-loop
 returns c = search laws
@@ -37,4 +38,4 @@ returns-2 c = search laws
 pub padded-len-spec : {M : Type 1} → statement M
 padded-len-spec =
     tie.close
-    (tie.spec Inv-loop μ-loop loop-holds array-read-if1 returns add-i loop-less loop-again returns-2)
+    (tie.spec Inv-loop μ-loop loop-holds shared-slice-read-if1 returns add-i loop-less loop-again returns-2)

@@ -9,9 +9,6 @@ ruleset laws = (front-within, front-room, front-wrote, needs)
 padded-len-requires : tie.Need-padded-len-requires
 padded-len-requires c κs = search laws
 
-slice-aggregate-s : tie.Need-slice-aggregate-s
-slice-aggregate-s c = search laws
-
 sub-put-bytes : tie.Need-sub-put-bytes
 sub-put-bytes c = search laws
 
@@ -33,4 +30,4 @@ returns c = search laws
 pub put-padded-spec : {M : Type 1} → statement M
 put-padded-spec =
     tie.close
-    (tie.spec padded-len-requires slice-aggregate-s sub-put-bytes part-put-bytes-start part-put-bytes-end put-bytes-requires same-length returns)
+    (tie.spec padded-len-requires sub-put-bytes part-put-bytes-start part-put-bytes-end put-bytes-requires same-length returns)

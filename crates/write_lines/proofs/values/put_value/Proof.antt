@@ -45,6 +45,9 @@ magnitude-requires c κs = search laws
 word-row-requires : tie.Need-word-row-requires
 word-row-requires c κs = search laws
 
+slice-aggregate-put-padded : tie.Need-slice-aggregate-put-padded
+slice-aggregate-put-padded c = search laws
+
 put-padded-requires : tie.Need-put-padded-requires
 put-padded-requires c κs = search laws
 
@@ -87,4 +90,4 @@ returns-6 c = search laws
 pub put-value-spec : {M : Type 1} → statement M
 put-value-spec =
     tie.close
-    (tie.spec enum-told put-part-requires enum-told-2 put-part-requires-2 enum-told-3 put-date-requires enum-told-4 put-integer-requires enum-known-t put-number-requires enum-known-t-2 magnitude-requires word-row-requires put-padded-requires same-length returns same-length-2 returns-2 same-length-3 returns-3 same-length-4 returns-4 same-length-5 returns-5 same-length-6 returns-6)
+    (tie.spec enum-told put-part-requires enum-told-2 put-part-requires-2 enum-told-3 put-date-requires enum-told-4 put-integer-requires enum-known-t put-number-requires enum-known-t-2 magnitude-requires word-row-requires slice-aggregate-put-padded put-padded-requires same-length returns same-length-2 returns-2 same-length-3 returns-3 same-length-4 returns-4 same-length-5 returns-5 same-length-6 returns-6)

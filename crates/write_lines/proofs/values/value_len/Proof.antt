@@ -45,6 +45,9 @@ magnitude-requires-2 c κs = search laws
 word-row-requires : tie.Need-word-row-requires
 word-row-requires c κs = search laws
 
+slice-aggregate-padded-len : tie.Need-slice-aggregate-padded-len
+slice-aggregate-padded-len c = search laws
+
 padded-len-requires : tie.Need-padded-len-requires
 padded-len-requires c κs = search laws
 
@@ -69,4 +72,4 @@ returns-6 c = search laws
 pub value-len-spec : {M : Type 1} → statement M
 value-len-spec =
     tie.close
-    (tie.spec enum-told part-len-requires enum-told-2 part-len-requires-2 enum-told-3 magnitude-requires enum-told-4 integer-len-requires enum-known-t number-len-requires enum-known-t-2 magnitude-requires-2 word-row-requires padded-len-requires returns returns-2 returns-3 returns-4 returns-5 returns-6)
+    (tie.spec enum-told part-len-requires enum-told-2 part-len-requires-2 enum-told-3 magnitude-requires enum-told-4 integer-len-requires enum-known-t number-len-requires enum-known-t-2 magnitude-requires-2 word-row-requires slice-aggregate-padded-len padded-len-requires returns returns-2 returns-3 returns-4 returns-5 returns-6)
