@@ -1,186 +1,128 @@
 -- Laws of a board gone through in parts, as the code leaves them.
-use Prim.Native.Nat.{ℕ, _+_, _-_, _/_, _%_, _≤_, _<_}
-use mathlib.Core.Path.{_≡_, refl, sym, ap, _∙_}
-use mathlib.Core.List.{List, _++_, append-nil}
-use mathlib.Core.Bool.{Bool, true, false, cond, _||_}
+use Prim.Native.Nat.{ℕ, _+_, _-_, _/_, _%_, _^_, _≤_, _<_}
+use mathlib.Core.Path.{_≡_, refl, sym, ap, subst, _∙_}
+use mathlib.Core.List.{List}
+use mathlib.Core.Bool.{Bool, true, false, cond, not, _||_}
 use native.Mathlib.Omega.{arith}
 use native.Mathlib.Nat.{mod-lt}
 use borrow.Author.Tests.{lt-ltb, le-ltb, ltb-true, ltb-false, eqb-true, eqb-false}
-use borrow.Author.Fill.{fill-more}
 use lib.Dec.{ltb, eqb}
 use lib.IntN.{ℤ}
-use lib.ListN.{length, set, drop, replicate, length-set, length-replicate}
 use Rattle.rows_texts.specs.Names.{keyOf}
-use Rattle.basics.proofs.Lists.{at-end}
-use Rattle.names_slots.specs.Looks.{looks}
 use Rattle.law.specs.declared.Verdict.{Verdict}
-use Rattle.law.specs.Answers.{limit}
-use Rattle.judge_stock.specs.Stock.{isIn, stockOf}
-use Rattle.judge_stock.proofs.StockLaws.{stock-of-length}
+use Rattle.judge_stock.specs.Stock.{isIn}
+use Rattle.judge.specs.declared.parts.OfPart.{OfPart}
+use Rattle.judge.specs.declared.parts.OfPart.the-variants.{Told, Divided}
 use Rattle.judge.specs.Verdicts.{placed}
-use Rattle.judge.specs.Parts.{asked, amongOf, sooner}
+use Rattle.judge.specs.Parts.{asked, isFrom, askedFrom, amongOf, sooner, Several, Tells}
 use Rattle.judge.proofs.SoonLaws.{either, soonest, same-among, all-placed}
 
--- one part has all placements
-pub one-part : (board library : List ℕ) (v : Verdict) → v ≡ amongOf (asked 1 0 board) board library → v ≡ placed board library
-unfolding asked isIn
-one-part board library v e = e ∙ all-placed (asked 1 0 board) board library (λ x. refl)
-
--- the first k parts
-part-first : (m : ℕ) → eqb m 0 ≡ ltb m 1
-part-first m = go (eqb m 0) refl
-  where
-    go : (a : Bool) → eqb m 0 ≡ a → a ≡ ltb m 1
-    go true e = sym (lt-ltb m 1 (let h = eqb-true m 0 e in omega arith))
-    go false e = sym (le-ltb m 1 (let h = eqb-false m 0 e in omega arith))
-
-part-next : (m k : ℕ) → (ltb m k || eqb m k) ≡ ltb m (k + 1)
-part-next m k = go (ltb m k) (eqb m k) refl refl
-  where
-    go : (a b : Bool) → ltb m k ≡ a → eqb m k ≡ b → (a || b) ≡ ltb m (k + 1)
-    go true b e i = sym (lt-ltb m (k + 1) (let h = ltb-true m k e in omega arith))
-    go false true e i = sym (lt-ltb m (k + 1) (let h = eqb-true m k i in omega arith))
-    go false false e i = sym (le-ltb m (k + 1) (let h = ltb-false m k e in let j = eqb-false m k i in omega arith))
-
-unfoldable pub isBefore : ℕ → ℕ → ℕ → Bool
-isBefore h parts k = cond (ltb parts 2) true (ltb (h / 17_592_186_044_416 % parts) k)
-
-module _ (h parts : ℕ) where
-  before-first : isIn h parts 0 ≡ isBefore h parts 1
-  unfolding isIn isBefore
-  before-first = rw (part-first (h / 17_592_186_044_416 % parts))
-
-  before-next : (k : ℕ) → (isBefore h parts k || isIn h parts k) ≡ isBefore h parts (k + 1)
-  unfolding isIn isBefore
-  before-next k = go (ltb parts 2)
+-- a part and those behind it
+module _ (m k : ℕ) where
+  place-last : m ≤ k → eqb m k ≡ not (ltb m k)
+  place-last l = go (eqb m k) refl
     where
-      go : (b : Bool) → (cond b true (ltb (h / 17_592_186_044_416 % parts) k) || cond b true (eqb (h / 17_592_186_044_416 % parts) k))
-          ≡ cond b true (ltb (h / 17_592_186_044_416 % parts) (k + 1))
-      go true = refl
-      go false = part-next (h / 17_592_186_044_416 % parts) k
+      go : (a : Bool) → eqb m k ≡ a → a ≡ not (ltb m k)
+      go true e = ap not (sym (le-ltb m k (let h = eqb-true m k e in omega arith)))
+      go false e = ap not (sym (lt-ltb m k (let h = eqb-false m k e in omega arith)))
 
-  before-all : (k : ℕ) → parts ≤ k → isBefore h parts k ≡ true
-  unfolding isBefore
-  before-all k l = go (ltb parts 2) refl
+  place-next : (eqb m k || not (ltb m (k + 1))) ≡ not (ltb m k)
+  place-next = go (eqb m k) (ltb m k) refl refl
     where
-      go : (b : Bool) → ltb parts 2 ≡ b → cond b true (ltb (h / 17_592_186_044_416 % parts) k) ≡ true
+      go : (a b : Bool) → eqb m k ≡ a → ltb m k ≡ b → (a || not (ltb m (k + 1))) ≡ not b
+      go true true e i = absurd (let h = eqb-true m k e in let j = ltb-true m k i in omega arith)
+      go true false e i = refl
+      go false true e i = ap not (lt-ltb m (k + 1) (let j = ltb-true m k i in omega arith))
+      go false false e i = ap not (le-ltb m (k + 1) (let h = eqb-false m k e in let j = ltb-false m k i in omega arith))
+
+-- the part of a hash
+abbrev partOf : ℕ → ℕ → ℕ
+partOf h parts = h / 17_592_186_044_416 % parts
+
+part-below : (h parts : ℕ) → 2 ≤ parts → partOf h parts < parts
+part-below h parts l = mod-lt (h / 17_592_186_044_416) {m = parts} (omega arith)
+
+module _ (h parts k : ℕ) where
+  from-last : parts ≤ k + 1 → isIn h parts k ≡ isFrom h parts k
+  unfolding isIn isFrom
+  from-last l = go (ltb parts 2) refl
+    where
+      go : (b : Bool) → ltb parts 2 ≡ b → cond b true (eqb (partOf h parts) k) ≡ cond b true (not (ltb (partOf h parts) k))
       go true e = refl
-      go false e = lt-ltb (h / 17_592_186_044_416 % parts) k (let i = ltb-false parts 2 e in let j = mod-lt (h / 17_592_186_044_416) {m = parts} (omega arith) in omega arith)
+      go false e = place-last (partOf h parts) k (let i = part-below h parts (ltb-false parts 2 e) in omega arith)
 
-unfoldable pub askedBefore : ℕ → ℕ → List ℕ → List ℤ → Bool
-askedBefore parts k board x = isBefore (keyOf board x) parts k
+  from-next : (isIn h parts k || isFrom h parts (k + 1)) ≡ isFrom h parts k
+  unfolding isIn isFrom
+  from-next = go (ltb parts 2)
+    where
+      go : (b : Bool) → (cond b true (eqb (partOf h parts) k) || cond b true (not (ltb (partOf h parts) (k + 1)))) ≡ cond b true (not (ltb (partOf h parts) k))
+      go true = refl
+      go false = place-next (partOf h parts) k
 
-stock-long : (parts part : ℕ) (library places₀ places : List ℕ) → places ≡ stockOf parts part library (replicate (length places₀) 0) → length places ≡ length places₀
-stock-long parts part library places₀ places e =
-    let z : ℕ = 0 in
-    ap length e ∙ stock-of-length parts part library (replicate (length places₀) z) ∙ length-replicate (length places₀) z
+  from-one : parts < 2 → isFrom h parts k ≡ true
+  unfolding isFrom
+  from-one l = rw (lt-ltb parts 2 l)
 
--- the best verdict of the parts that came
-pub record Parting (parts : ℕ) (board library places₀ places : List ℕ) (best : Verdict) (k : ℕ) : Type 0 where
-  pub found : best ≡ amongOf (askedBefore parts k board) board library
-  pub slots : places ≡ stockOf parts (k - 1) library (replicate (length places₀) 0)
-  pub some : 1 ≤ k
-  pub last : k - 1 ≤ parts - 1
-  pub room : looks < length places
-  pub long : length places ≡ length places₀
-  pub small : length library ≤ limit
-  pub short : length board ≤ limit
+from-first : (h parts : ℕ) → isFrom h parts 0 ≡ true
+unfolding isFrom
+from-first h parts = go (ltb parts 2)
+  where
+    go : (b : Bool) → cond b true (not (ltb (partOf h parts) 0)) ≡ true
+    go true = refl
+    go false = ap not (le-ltb (partOf h parts) 0 (omega arith))
 
-module _ (parts : ℕ) (board library : List ℕ) (v : Verdict) where
-  pub part-start : (places₀ places : List ℕ) → places ≡ stockOf parts 0 library (replicate (length places₀) 0) → v ≡ amongOf (asked parts 0 board) board library
-      → looks < length places₀ → length library ≤ limit → length board ≤ limit → Parting parts board library places places v 1
-  unfolding asked askedBefore
-  part-start places₀ places i e r s b =
-      let l = stock-long parts 0 library places₀ places i in
-      record {
-        found = e ∙ same-among (asked parts 0 board) (askedBefore parts 1 board) (λ x. before-first (keyOf board x) parts) board library;
-        slots = i ∙ ap (λ (n : ℕ). stockOf parts 0 library (replicate n 0)) (sym l);
-        some = omega arith;
-        last = omega arith;
-        room = rw l r;
-        long = refl;
-        small = s;
-        short = b;
-      }
+-- from the first part on there are all placements
+pub parts-all : (parts : ℕ) (board library : List ℕ) (v : Verdict) → v ≡ amongOf (askedFrom parts 0 board) board library → v ≡ placed board library
+unfolding askedFrom
+parts-all parts board library v e = e ∙ all-placed (askedFrom parts 0 board) board library (λ x. from-first (keyOf board x) parts)
 
-module _ (parts : ℕ) (board library places₀ places : List ℕ) (best : Verdict) (k : ℕ) (s : Parting parts board library places₀ places best k) where
-  pub part-room : looks < length places
-  part-room = s .room
+-- what falls with each call: how many parts are left; one part, which may have to be divided, counts more than all of them
+unfoldable pub left : ℕ → ℕ → ℕ
+left parts part = cond (ltb parts 2) (2 ^ 64) (parts - part)
 
-  pub part-small : length library ≤ limit
-  part-small = s .small
+left-of : (parts part : ℕ) → 2 ≤ parts → left parts part ≡ parts - part
+unfolding left
+left-of parts part h = rw (le-ltb parts 2 h)
 
-  pub part-short : length board ≤ limit
-  part-short = s .short
+module _ (parts part : ℕ) (board library : List ℕ) (a : OfPart) (s : Tells parts part board library a) where
+  module _ (n : ℕ) (e : a ≡ Divided n) where
+    several : Several parts n
+    several = subst (Tells parts part board library) e s
 
-  pub part-length : length places ≡ length places₀
-  part-length = s .long
+    pub divided-some : 0 < n
+    divided-some = let h = several .more in omega arith
 
-  pub part-more : (ys : List ℕ) (r v : Verdict) → k < parts → r ≡ amongOf (asked parts k board) board library → ys ≡ stockOf parts k library (replicate (length places) 0)
-      → v ≡ sooner best r → Parting parts board library places₀ ys v (k + 1)
-  unfolding asked askedBefore
-  part-more ys r v h e i j =
-      let z : k + 1 - 1 ≡ k = omega arith in
-      let l = stock-long parts k library places ys i in
-      record {
-        found =
-            j
-            ∙ ap (λ (z : Verdict). sooner z r) (s .found)
-            ∙ ap (sooner (amongOf (askedBefore parts k board) board library)) e
-            ∙ soonest (askedBefore parts k board) (asked parts k board) board library
-            ∙ same-among (either (askedBefore parts k board) (asked parts k board) board library) (askedBefore parts (k + 1) board) (λ x. before-next (keyOf board x) parts k) board library;
-        slots = rw (z, sym (s .long)) i;
-        some = omega arith;
-        last = omega arith;
-        room = rw l (s .room);
-        long = l ∙ s .long;
-        small = s .small;
-        short = s .short;
-      }
+    pub divided-less : (t : ℕ) → left parts part ≡ t → left n 0 < t
+    unfolding left
+    divided-less t i =
+        let h = several .more in
+        let w = several .word in
+        subst (λ (z : ℕ). left n 0 < z) i (rw (le-ltb n 2 (omega arith), lt-ltb parts 2 (several .one)) (let z : n - 0 < 2 ^ 64 = omega arith in z))
 
-  pub part-over : parts ≤ k → best ≡ placed board library
-  unfolding askedBefore
-  part-over h = s .found ∙ all-placed (askedBefore parts k board) board library (λ x. before-all (keyOf board x) parts k h)
+    pub divided-all : (v : Verdict) → v ≡ amongOf (askedFrom n 0 board) board library → v ≡ amongOf (askedFrom parts part board) board library
+    unfolding askedFrom
+    divided-all v i =
+        parts-all n board library v i
+        ∙ sym (all-placed (askedFrom parts part board) board library (λ x. from-one (keyOf board x) parts part (several .one)))
 
-  pub part-last : (xs : List ℕ) → places₀ ≡ stockOf parts 0 library (replicate (length xs) 0) → parts ≤ k
-      → places ≡ stockOf parts (parts - 1) library (replicate (length xs) 0)
-  part-last xs i h =
-      let a = s .last in
-      let z : k - 1 ≡ parts - 1 = omega arith in
-      s .slots
-      ∙ ap (λ (j : ℕ). stockOf parts j library (replicate (length places₀) 0)) z
-      ∙ ap (λ (n : ℕ). stockOf parts (parts - 1) library (replicate n 0)) (stock-long parts 0 library xs places₀ i)
+  module _ (v : Verdict) (e : a ≡ Told v) where
+    of-part : v ≡ amongOf (asked parts part board) board library
+    of-part = subst (Tells parts part board library) e s
 
--- one part in slots that were emptied
-pub cleared-stock : (parts part : ℕ) (library ys zs : List ℕ) (n : ℕ) → ys ≡ stockOf parts part library zs → zs ≡ replicate n 0 → ys ≡ stockOf parts part library (replicate n 0)
-cleared-stock parts part library ys zs n e i = e ∙ ap (stockOf parts part library) i
+    pub told-last : parts ≤ part + 1 → v ≡ amongOf (askedFrom parts part board) board library
+    unfolding asked askedFrom
+    told-last h = of-part ∙ same-among (asked parts part board) (askedFrom parts part board) (λ x. from-last (keyOf board x) parts part h) board library
 
--- slots emptied from the front
-pub record Clearing (places₀ places : List ℕ) (i : ℕ) : Type 0 where
-  pub so-far : places ≡ replicate i 0 ++ drop i places₀
-  pub within : i ≤ length places₀
-  pub long : length places ≡ length places₀
+    pub told-next : (u r : Verdict) → u ≡ amongOf (askedFrom parts (part + 1) board) board library → r ≡ sooner v u → r ≡ amongOf (askedFrom parts part board) board library
+    unfolding asked askedFrom
+    told-next u r i j =
+        j
+        ∙ ap (λ (z : Verdict). sooner z u) of-part
+        ∙ ap (sooner (amongOf (asked parts part board) board library)) i
+        ∙ soonest (asked parts part board) (askedFrom parts (part + 1) board) board library
+        ∙ same-among (either (asked parts part board) (askedFrom parts (part + 1) board) board library) (askedFrom parts part board) (λ x. from-next (keyOf board x) parts part) board library
 
-pub clear-start : (places : List ℕ) → Clearing places places 0
-clear-start places = record { so-far = refl; within = omega arith; long = refl }
-
-module _ (places₀ places : List ℕ) (i : ℕ) (s : Clearing places₀ places i) where
-  pub clear-length : length places ≡ length places₀
-  clear-length = s .long
-
-  pub clear-more : i < length places → Clearing places₀ (set places i 0) (i + 1)
-  clear-more h =
-      let l = s .long in
-      let k : i < length places₀ = omega arith in
-      record {
-        so-far = ap (λ (z : List ℕ). set z i 0) (s .so-far) ∙ fill-more i 0 places₀ k;
-        within = omega arith;
-        long = length-set places i 0 ∙ s .long;
-      }
-
-  pub clear-over : length places ≤ i → places ≡ replicate (length places₀) 0
-  clear-over h =
-      let l = s .long in
-      let w = s .within in
-      let z : i ≡ length places₀ = omega arith in
-      s .so-far ∙ ap (λ (d : List ℕ). replicate i 0 ++ d) (at-end places₀ i (omega arith)) ∙ append-nil (replicate i 0) ∙ ap (λ (n : ℕ). replicate n 0) z
+pub next-less : (parts part t : ℕ) → left parts part ≡ t → part + 1 < parts → left parts (part + 1) < t
+next-less parts part t i h =
+    let e = left-of parts part (omega arith) in
+    rw (left-of parts (part + 1) (omega arith)) (let z : parts - (part + 1) < t = omega arith in z)

@@ -193,18 +193,15 @@ empty-stocked library n h = record {
   has = λ i k board x e. absurd (false≢true (sym (none-shown board library k x) ∙ sym (ap (showsName board library k x) (none-held n i)) ∙ e));
 }
 
-module _ (parts part : ℕ) (library ys : List ℕ) where
-  filled : (n : ℕ) → looks < n → ys ≡ stockOf parts part library (empty n) → Stocked library ys
-  filled n h e = subst (Stocked library) (sym e) (stock-true parts part library (empty n) (empty-stocked library n h))
+-- as many slots as there are, and more of the library in them
+pub empty-all : (library : List ℕ) → Stocked library (empty 61_440)
+empty-all library = empty-stocked library 61_440 (omega arith)
 
-  pub filled-all : ys ≡ stockOf parts part library (empty 61_440) → Stocked library ys
-  filled-all e = filled 61_440 (omega arith) e
+pub empty-few : (library : List ℕ) → Stocked library (empty 2_048)
+empty-few library = empty-stocked library 2_048 (omega arith)
 
-  pub filled-few : ys ≡ stockOf parts part library (empty 2_048) → Stocked library ys
-  filled-few e = filled 2_048 (omega arith) e
-
-  pub filled-again : (places : List ℕ) → ys ≡ stockOf parts part library (empty (length places)) → looks < length places → Stocked library ys
-  filled-again places e h = filled (length places) h e
+pub filled-stocked : (parts part : ℕ) (library places ys : List ℕ) → Stocked library places → ys ≡ stockOf parts part library places → Stocked library ys
+filled-stocked parts part library places ys s e = subst (Stocked library) (sym e) (stock-true parts part library places s)
 
 -- as the code asks them
 module _ (library places : List ℕ) (s : Stocked library places) where

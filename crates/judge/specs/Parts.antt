@@ -1,7 +1,8 @@
 -- The placements of a board in parts, by the hash of their names; no verdict depends on the parts.
-use Prim.Native.Nat.{ℕ, _+_}
+use Prim.Native.Nat.{ℕ, _+_, _/_, _%_, _^_, _<_}
+use mathlib.Core.Path.{_≡_}
 use mathlib.Core.List.{List}
-use mathlib.Core.Bool.{Bool, cond, _&&_}
+use mathlib.Core.Bool.{Bool, true, cond, not, _&&_}
 use lib.Dec.{ltb, eqb}
 use lib.IntN.{ℤ}
 use Rattle.rows.specs.RowKinds.{isOfKind}
@@ -12,11 +13,21 @@ use Rattle.walk.specs.Walks.{Trace, done, stop, skip, row, traceOf}
 use Rattle.law.specs.declared.Verdict.{Verdict}
 use Rattle.law.specs.Answers.{verdict}
 use Rattle.judge_stock.specs.Stock.{isIn}
+use Rattle.judge.specs.declared.parts.OfPart.{OfPart}
+use Rattle.judge.specs.declared.parts.OfPart.the-variants.{Told, Divided}
 use Rattle.judge.specs.Entries.{lacksEntry, lacks}
 
 -- a placement's name is in a part, of so many
 unfoldable pub asked : ℕ → ℕ → List ℕ → List ℤ → Bool
 asked parts part board x = isIn (keyOf board x) parts part
+
+-- a hash is in a part or in one behind it
+unfoldable pub isFrom : ℕ → ℕ → ℕ → Bool
+isFrom h parts part = cond (ltb parts 2) true (not (ltb (h / 17_592_186_044_416 % parts) part))
+
+-- so is a placement's name
+unfoldable pub askedFrom : ℕ → ℕ → List ℕ → List ℤ → Bool
+askedFrom parts part board x = isFrom (keyOf board x) parts part
 
 -- a line is a placement that passes a test and lacks its entry
 unfoldable pub missed : (List ℤ → Bool) → List ℕ → List ℕ → Turn → Bool
@@ -38,3 +49,14 @@ amongOf p board library = amongFrom p board library 0 (traceOf board)
 -- of two verdicts on one board the one that names the earlier placement; number 0 names none
 unfoldable pub sooner : Verdict → Verdict → Verdict
 sooner a b = cond (eqb (a .number) 0) b (cond (eqb (b .number) 0) a (cond (ltb (b .count) (a .count)) b a))
+
+-- what was to be one part is divided into several
+pub record Several (parts n : ℕ) : Type 0 where
+  pub one : parts < 2
+  pub more : 1 < n
+  pub word : n < 2 ^ 64
+
+-- what came of a part
+abbrev pub Tells : ℕ → ℕ → List ℕ → List ℕ → OfPart → Type 0
+Tells parts part board library (Told v) = v ≡ amongOf (asked parts part board) board library
+Tells parts part board library (Divided n) = Several parts n

@@ -8,14 +8,13 @@ use rows::WIDTH;
 use walk::Turn;
 use walk::steps;
 ghost use mathlib.Core.Path.{_≡_};
-ghost use Prim.Native.Nat.{_-_, _^_, _≤_, _<_};
-ghost use lib.ListN.{length, replicate};
-ghost use Rattle.names_slots.specs.Looks.{looks};
+ghost use Prim.Native.Nat.{_^_, _≤_, _<_};
+ghost use lib.ListN.{length};
 ghost use Rattle.law.specs.Answers.{limit, verdict};
 ghost use Rattle.judge_stock.specs.Stock.{stockOf};
 ghost use Rattle.judge.specs.Stocked.{Stocked};
 ghost use Rattle.judge.specs.Verdicts.{numbered, placed};
-ghost use Rattle.judge.specs.Parts.{asked, missed, amongOf, sooner};
+ghost use Rattle.judge.specs.Parts.{asked, askedFrom, missed, amongOf, sooner, Tells};
 
 // How many slots there are for a library's components, 480 KiB of them; how many components a part has at most, about; and how
 // many slots are enough for a small library.
@@ -24,6 +23,12 @@ const PLACES: usize = 61_440;
 const MANY: u64 = 50_000;
 
 const FEW: usize = 2_048;
+
+// What came of a part: its verdict; or, where one part would have too many components, how many parts there are to be.
+enum OfPart {
+    Told(Verdict),
+    Divided(u64),
+}
 
 // A verdict on no line.
 pub(crate) fn verdict(number: u64, count: u64, which: u64) -> Verdict
@@ -112,82 +117,71 @@ fn sooner(a: Verdict, b: Verdict) -> Verdict
     a
 }
 
-// Empties all slots.
-fn clear(places: &mut [u64])
-    ensures { λ _. ⌜ now (places .exit) ≡ replicate (length (now (places .entry))) 0 ⌝ }
+// What comes of a part in these slots; no placement is looked for where there are to be several parts.
+fn in_slots(board: &[u8], library: &[u8], places: &mut [u64], parts: u64, part: u64) -> OfPart
+    requires { ⌜ (length (now library) ≤ limit) × (length (now board) ≤ limit) × Stocked (now library) (now places) ⌝ }
+    ensures { λ r. ⌜ Tells parts part (now (board .entry)) (now (library .entry)) r ⌝ }
+    ensures { λ _. ⌜ now (places .exit) ≡ stockOf parts part (now (library .entry)) (now (places .entry)) ⌝ }
 {
-    let mut i = 0;
-    while i < places.len() {
-        places[i] = 0;
-        i += 1;
+    let n = judge_stock::fill(library, parts, part, places);
+    if parts < 2 {
+        if MANY < n {
+            return OfPart::Divided(n / MANY + 1);
+        }
     }
+    OfPart::Told(placed_by(board, library, places, parts, part))
 }
 
-// Fills the slots afresh, with a part of the library.
-fn refill(library: &[u8], parts: u64, part: u64, places: &mut [u64])
-    requires { ⌜ (length (now library) ≤ limit) × (looks < length (now places)) ⌝ }
-    ensures { λ _. ⌜ now (places .exit) ≡ stockOf parts part (now (library .entry)) (replicate (length (now (places .entry))) 0) ⌝ }
-{
-    clear(places);
-    judge_stock::fill(library, parts, part, places);
-}
-
-// The verdict of one part, with nothing else in the slots.
-fn of_part(board: &[u8], library: &[u8], places: &mut [u64], parts: u64, part: u64) -> Verdict
-    requires { ⌜ (length (now library) ≤ limit) × (length (now board) ≤ limit) × (looks < length (now places)) ⌝ }
-    ensures { λ r. ⌜ r ≡ amongOf (asked parts part (now (board .entry))) (now (board .entry)) (now (library .entry)) ⌝ }
-    ensures { λ _. ⌜ now (places .exit) ≡ stockOf parts part (now (library .entry)) (replicate (length (now (places .entry))) 0) ⌝ }
-{
-    refill(library, parts, part, places);
-    placed_by(board, library, places, parts, part)
-}
-
-// The verdict of all parts; the slots hold the last one in the end.
-fn by_parts(board: &[u8], library: &[u8], places: &mut [u64], parts: u64) -> Verdict
-    requires { ⌜ (length (now library) ≤ limit) × (length (now board) ≤ limit) × (looks < length (now places)) ⌝ }
-    ensures { λ r. ⌜ r ≡ placed (now (board .entry)) (now (library .entry)) ⌝ }
-    ensures { λ _. ⌜ now (places .exit) ≡ stockOf parts (parts - 1) (now (library .entry)) (replicate (length (now (places .entry))) 0) ⌝ }
-{
-    let mut best = of_part(board, library, places, parts, 0);
-    let mut part = 1;
-    while part < parts {
-        let r = of_part(board, library, places, parts, part);
-        best = sooner(best, r);
-        part += 1;
-    }
-    best
-}
-
-// The verdict on a board with a library that is not in slots yet, and few slots at hand.
-fn placed_few(board: &[u8], library: &[u8]) -> Verdict
+// The same with few slots, which are empty.
+fn in_few(board: &[u8], library: &[u8], parts: u64, part: u64) -> OfPart
     requires { ⌜ (length (now library) ≤ limit) × (length (now board) ≤ limit) ⌝ }
-    ensures { λ r. ⌜ r ≡ placed (now (board .entry)) (now (library .entry)) ⌝ }
+    ensures { λ r. ⌜ Tells parts part (now (board .entry)) (now (library .entry)) r ⌝ }
 {
     let mut places: [u64; FEW] = [0; FEW];
-    judge_stock::fill(library, 1, 0, &mut places);
-    placed_by(board, library, &places, 1, 0)
+    in_slots(board, library, &mut places, parts, part)
 }
 
-// The same with all slots, and in parts where there are too many components for them.
-fn placed_all(board: &[u8], library: &[u8]) -> Verdict
+// The same with all slots.
+fn in_all(board: &[u8], library: &[u8], parts: u64, part: u64) -> OfPart
     requires { ⌜ (length (now library) ≤ limit) × (length (now board) ≤ limit) ⌝ }
-    ensures { λ r. ⌜ r ≡ placed (now (board .entry)) (now (library .entry)) ⌝ }
+    ensures { λ r. ⌜ Tells parts part (now (board .entry)) (now (library .entry)) r ⌝ }
 {
     let mut places: [u64; PLACES] = [0; PLACES];
-    let n = judge_stock::fill(library, 1, 0, &mut places);
-    if n <= MANY {
-        return placed_by(board, library, &places, 1, 0);
-    }
-    by_parts(board, library, &mut places, n / MANY + 1)
+    in_slots(board, library, &mut places, parts, part)
 }
 
-// The placements of a board: 16 at the first that lacks its entry, or their number; with as many slots as the library's size asks for.
+// The same with as many slots as the library's size asks for.
+fn of_part(board: &[u8], library: &[u8], parts: u64, part: u64) -> OfPart
+    requires { ⌜ (length (now library) ≤ limit) × (length (now board) ≤ limit) ⌝ }
+    ensures { λ r. ⌜ Tells parts part (now (board .entry)) (now (library .entry)) r ⌝ }
+{
+    if library.len() < SMALL {
+        return in_few(board, library, parts, part);
+    }
+    in_all(board, library, parts, part)
+}
+
+// The verdict of a part and of those behind it. It calls itself, so that the compiler neither makes it part of `judge`, which has
+// marks on the stack below its own frame, nor puts the slots of `of_part` into its frame.
+fn by_parts(board: &[u8], library: &[u8], parts: u64, part: u64) -> Verdict
+    requires { ⌜ (length (now library) ≤ limit) × (length (now board) ≤ limit) × (part < parts) ⌝ }
+    ensures { λ r. ⌜ r ≡ amongOf (askedFrom parts part (now (board .entry))) (now (board .entry)) (now (library .entry)) ⌝ }
+{
+    match of_part(board, library, parts, part) {
+        OfPart::Divided(n) => by_parts(board, library, n, 0),
+        OfPart::Told(v) => {
+            if part + 1 < parts {
+                return sooner(v, by_parts(board, library, parts, part + 1));
+            }
+            v
+        }
+    }
+}
+
+// The placements of a board: 16 at the first that lacks its entry, or their number; in one part unless it has to be divided.
 pub fn placed(board: &[u8], library: &[u8]) -> Verdict
     requires { ⌜ (length (now library) ≤ limit) × (length (now board) ≤ limit) ⌝ }
     ensures { λ r. ⌜ r ≡ placed (now (board .entry)) (now (library .entry)) ⌝ }
 {
-    if library.len() < SMALL {
-        return placed_few(board, library);
-    }
-    placed_all(board, library)
+    by_parts(board, library, 1, 0)
 }

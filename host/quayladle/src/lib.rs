@@ -17,13 +17,13 @@
 //! # Stack
 //!
 //! The library has no heap: its tables stand on the stack of the thread that calls it. A call takes
-//! 500 KiB of it, [`judge`] 980 KiB, however small the files are; [`Reader::next`] takes next to
-//! nothing. Threads of the standard library have 2 MiB. A thread that is started with a stack of
-//! its own size needs these and 16 KiB for itself:
+//! 504 KiB of it, however small the files are; [`Reader::next`] takes next to nothing. Threads of
+//! the standard library have 2 MiB. A thread that is started with a stack of its own size needs
+//! these and 16 KiB for itself:
 //!
 //! ```
 //! let file = b".HEADER\nLIBRARY_FILE 3 s 2024/05/06.07:08:09 1\n.END_HEADER\n";
-//! let thread = std::thread::Builder::new().stack_size((500 + 16) << 10);
+//! let thread = std::thread::Builder::new().stack_size((504 + 16) << 10);
 //! let checking = thread.spawn(|| quayladle::check(file))?;
 //! assert_eq!(checking.join().unwrap().done(), Ok(3));
 //! # Ok::<(), std::io::Error>(())

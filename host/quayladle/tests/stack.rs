@@ -10,12 +10,13 @@ use quayladle::{check, judge, read, same, write, Reader, Reply, Verdict};
 
 /// What an idle thread has, its thread-local storage with it: the least that a thread is started with.
 const IDLE: usize = 16 << 10;
-/// What an operation takes, and what judging does.
-const ANY: usize = 500 << 10;
-const JUDGING: usize = 980 << 10;
+/// What an operation takes, and the thread that runs it.
+const STACK: usize = (504 << 10) + IDLE;
 
-/// How many components the library has, and the lines of its header and of each.
+/// How many components a library has, and one that is gone through in parts to be judged by; the
+/// lines of its header and of each.
 const COMPONENTS: u64 = 4_000;
+const MANY: u64 = 60_000;
 const HEADER_LINES: u64 = 3;
 const LINES: u64 = 5;
 /// How many placements the board has, so that it is over 1 MiB, and its other lines.
@@ -31,10 +32,10 @@ fn name(number: u64) -> String {
     format!("geometry{number:06} part{number:06}")
 }
 
-/// A library; the last component is of this number.
-fn library(last: u64) -> Vec<u8> {
+/// A library of so many components; the last is of this number.
+fn library(components: u64, last: u64) -> Vec<u8> {
     let mut text = ".HEADER\nLIBRARY_FILE 3.0 s 2024/05/06.07:08:09 1\n.END_HEADER\n".to_string();
-    for number in (1..COMPONENTS).chain([last]) {
+    for number in (1..components).chain([last]) {
         text += &format!(".ELECTRICAL\n{} MM 1\n", name(number));
         text += "0 0 0 0\n0 1 0 360\n.END_ELECTRICAL\n";
     }
@@ -78,12 +79,12 @@ fn fields_in(file: &[u8], lent: &mut [i64]) -> u64 {
 #[test]
 fn a_library_is_checked_on_the_stack_that_is_asked_for() {
     let rows = HEADER_LINES + COMPONENTS * LINES;
-    let whole = library(COMPONENTS);
-    assert_eq!(within(ANY + IDLE, || check(&whole)), done(rows));
+    let whole = library(COMPONENTS, COMPONENTS);
+    assert_eq!(within(STACK, || check(&whole)), done(rows));
     // A name that comes again takes a second walk.
-    let again = library(1);
+    let again = library(COMPONENTS, 1);
     let refused = Reply { number: 12, line: rows - 3, count: 0 };
-    assert_eq!(within(ANY + IDLE, || check(&again)), refused);
+    assert_eq!(within(STACK, || check(&again)), refused);
 }
 
 #[test]
@@ -92,24 +93,27 @@ fn a_board_is_read_written_and_compared_on_the_stack_that_is_asked_for() {
     assert!(board.len() > 1 << 20);
     let count = OTHER_LINES + 2 * PLACEMENTS;
     let mut rows = vec![0; 10 * count as usize];
-    assert_eq!(within(ANY + IDLE, || read(&board, &mut rows)), done(count));
+    assert_eq!(within(STACK, || read(&board, &mut rows)), done(count));
     let mut text = vec![0; board.len()];
-    assert_eq!(within(ANY + IDLE, || write(&rows, &board, &mut text)), done(board.len() as u64));
+    assert_eq!(within(STACK, || write(&rows, &board, &mut text)), done(board.len() as u64));
     assert!(text == board, "the text of the board's rows");
-    let verdict = within(ANY + IDLE, || same(&board, &text));
+    let verdict = within(STACK, || same(&board, &text));
     assert_eq!(verdict, Verdict { reply: done(1), which: 0 });
 }
 
 #[test]
 fn a_board_is_judged_on_the_stack_that_is_asked_for() {
-    let (board, library) = (board(), library(COMPONENTS));
-    let verdict = within(JUDGING + IDLE, || judge(&board, &library));
-    assert_eq!(verdict, Verdict { reply: done(PLACEMENTS), which: 0 });
+    let board = board();
+    for components in [COMPONENTS, MANY] {
+        let library = library(components, components);
+        let verdict = within(STACK, || judge(&board, &library));
+        assert_eq!(verdict, Verdict { reply: done(PLACEMENTS), which: 0 });
+    }
 }
 
 #[test]
 fn lines_are_handed_out_on_an_idle_threads_stack() {
-    let library = library(COMPONENTS);
+    let library = library(COMPONENTS, COMPONENTS);
     let mut lent = [0; 12];
     let fields = within(IDLE, || fields_in(&library, &mut lent));
     assert_eq!(fields, 7 + COMPONENTS * 14);
@@ -154,7 +158,7 @@ fn with_less_stack_the_process_ends_without_an_answer() {
         return be_a_child(operation, kib.parse().expect("a number"));
     }
     for operation in ["check", "read", "write", "same", "judge"] {
-        let (status, answered) = child(operation, (JUDGING + IDLE) >> 10);
+        let (status, answered) = child(operation, STACK >> 10);
         assert!(status.success() && answered, "{operation} on enough: {status}");
         for kib in [64, 480] {
             let (status, answered) = child(operation, kib);
