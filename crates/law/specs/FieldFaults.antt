@@ -19,20 +19,20 @@ use Rattle.law.specs.RecordSpelling.{SpellsField}
 use Rattle.law.specs.Magnitudes.{InMagnitude}
 
 -- no value is spelled by the field
-abbrev pub Spellless : Context → FieldType → Field → Type 0
-Spellless c t f = (x : Value) → SpellsField c t x f → ⊥
+abbrev pub NoValue : Context → FieldType → Field → Type 0
+NoValue c t f = (x : Value) → SpellsField c t x f → ⊥
 
 -- one field: 7 no integer or no number, or past its magnitude; 8 finer than the decimals kept; 9 a wrong word, date, version or BOARD; 10 a limit
 pub data FaultyField (c : Context) : FieldType → Field → ℕ → Type 0 where
-  no-integer : {f : Field} → Spellless c I f → FaultyField c I f 7
+  no-integer : {f : Field} → NoValue c I f → FaultyField c I f 7
   quoted-number : {l : Limit} {s : List ℕ} → FaultyField c (N l) (field true s) 7
   no-number : {l : Limit} {s : List ℕ} → (InMagnitude (kept c l) (largest l) s → ⊥) → FaultyField c (N l) (field false s) 7
   too-fine : {l : Limit} {s : List ℕ} → InMagnitude (kept c l) (largest l) s → ((z : ℤ) → SpellsNumber (kept c l) (largest l) z s → ⊥) → FaultyField c (N l) (field false s) 8
   other-version : {s : List ℕ} {z : ℤ} → SpellsNumber (kept c Ver) (largest Ver) z s → within c Ver z ≡ false → FaultyField c (N Ver) (field false s) 9
   beyond-limit : {l : Limit} {s : List ℕ} {z : ℤ} → l ≢ Ver → SpellsNumber (kept c l) (largest l) z s → within c l z ≡ false → FaultyField c (N l) (field false s) 10
-  no-word : {l : Words} {f : Field} → Spellless c (W l) f → FaultyField c (W l) f 9
-  no-date : {f : Field} → Spellless c D f → FaultyField c D f 9
-  barred-board : {f : Field} → Spellless c Ref f → FaultyField c Ref f 9
+  no-word : {l : Words} {f : Field} → NoValue c (W l) f → FaultyField c (W l) f 9
+  no-date : {f : Field} → NoValue c D f → FaultyField c D f 9
+  barred-board : {f : Field} → NoValue c Ref f → FaultyField c Ref f 9
 
 -- the fields from the left: the first that has no value
 pub data FaultyFields (c : Context) : List FieldType → List Field → ℕ → Type 0 where

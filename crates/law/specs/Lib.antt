@@ -1,6 +1,7 @@
 pub mod Bytes
 pub mod Lines
 pub mod Fields
+pub mod FieldPlaces
 pub mod Limits
 pub mod Numbers
 pub mod Magnitudes
@@ -22,7 +23,6 @@ pub mod Files
 pub mod FieldFaults
 pub mod LineFaults
 pub mod Rows
-pub mod FieldPlaces
 pub mod RowPlaces
 pub mod Printing
 pub mod Canonical

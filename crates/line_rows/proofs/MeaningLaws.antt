@@ -40,7 +40,7 @@ means-one (aText h g x) (aWord y) = absurd (false≢true h)
 means-one (aText h g x) (aDate j y) = absurd (false≢true h)
 means-one (aText h g x) (aText i j y) = rw (means-one x y)
 
-number-wide : (t : FieldType) → isNumber t ≡ true → widthOf t ≡ 1
+pub number-wide : (t : FieldType) → isNumber t ≡ true → widthOf t ≡ 1
 number-wide T h = absurd (false≢true h)
 number-wide Ref h = absurd (false≢true h)
 number-wide D h = absurd (false≢true h)
@@ -48,7 +48,7 @@ number-wide I h = refl
 number-wide (N l) h = refl
 number-wide (W l) h = refl
 
-text-wide : (t : FieldType) → isText t ≡ true → widthOf t ≡ 2
+pub text-wide : (t : FieldType) → isText t ≡ true → widthOf t ≡ 2
 text-wide T h = refl
 text-wide Ref h = refl
 text-wide D h = refl

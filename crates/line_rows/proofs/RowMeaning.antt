@@ -111,13 +111,13 @@ module _ (file : List ℕ) (a l : ℕ) (inside : a + l ≤ length file) where
 -- A row as it is filled
 
 -- these columns are in the row, n more have room, the place in the line is m, and nothing is refused
-record Stands (cs : List ℤ) (n m : ℕ) (f : Filling) : Type 0 where
-  row : f .row ≡ cs ++ replicate n (pos 0)
-  column : f .column ≡ length cs
-  place : f .at ≡ m
-  fine : f .refused ≡ 0
+pub record Stands (cs : List ℤ) (n m : ℕ) (f : Filling) : Type 0 where
+  pub row : f .row ≡ cs ++ replicate n (pos 0)
+  pub column : f .column ≡ length cs
+  pub place : f .at ≡ m
+  pub fine : f .refused ≡ 0
 
-stands-one : (cs : List ℤ) (n m : ℕ) (f : Filling) (z : ℤ) (j : ℕ) → Stands cs (suc n) m f → Stands (cs ++ (z ∷ [])) n j (putOne f z j)
+pub stands-one : (cs : List ℤ) (n m : ℕ) (f : Filling) (z : ℤ) (j : ℕ) → Stands cs (suc n) m f → Stands (cs ++ (z ∷ [])) n j (putOne f z j)
 stands-one cs n m f z j x = record {
   row = rw (x .row, x .column) (set-append-seam cs (pos 0) (replicate n (pos 0)) z ∙ sym (append-assoc cs (z ∷ []) (replicate n (pos 0))));
   column = omega (arith, x .column, length-append cs (z ∷ []));

@@ -6,20 +6,15 @@ use mathlib.Core.Bool.{Bool, true, false, not, cond, true≢false, false≢true}
 use native.Mathlib.Omega.{arith}
 use borrow.Author.Tests.{lt-ltb, le-ltb, ltb-true, ltb-false, not-true, not-false}
 use lib.Dec.{ltb}
-use lib.ListN.{length, drop, length-drop}
-use Rattle.text.proofs.LineLaws.{line-inside}
+use lib.ListN.{length}
 use Rattle.walk.specs.declared.Found.{Found}
 use Rattle.walk.specs.declared.Found.the-variants.{Row, Nothing, Refused}
 use Rattle.walk.specs.declared.Walk.{Walk}
 use Rattle.walk.specs.declared.Turn.{Turn}
 use Rattle.walk.specs.Walks.{turnOf, Steady, isRow, traceBy, traceAt}
-use Rattle.walk.proofs.WalkLaws.{Going, going-trace, going-past, going-less, going-more, going-end}
+use Rattle.walk.proofs.WalkLaws.{turn-past, Going, going-trace, going-past, going-less, going-more, going-end}
 use Rattle.same.specs.NextRows.{isFree, noneAt, nextIn, nextOf}
 use Rattle.same.specs.SameLists.{listIn}
-
-turn-past : (file : List ℕ) (w : Walk) → w .at < length file → w .at < turnOf file w .walk .at
-unfolding turnOf
-turn-past file w h = let k = line-inside (drop (w .at) file) .past (omega (arith, length-drop (w .at) file)) in omega arith
 
 -- no more lines than bytes are needed
 next-fuel : (file : List ℕ) (m n : ℕ) (w : Walk) → length file ≤ w .at + m → length file ≤ w .at + n → nextIn m file w ≡ nextIn n file w

@@ -39,7 +39,7 @@ module _ (v : Rules) where
       go true (next t) p q h = let z : _≡_ {A = ℕ} 0 1 = cc in absurd (omega arith)
       go false (next t) p q h = record { moves = q ∙ h; is-new = p }
 
-  unused-on : (used : List Named) (r : Rec) (rs : List Rec) → repeats v used r ≡ false → Unused (noted v used r) (namesOf v rs)
+  pub unused-on : (used : List Named) (r : Rec) (rs : List Rec) → repeats v used r ≡ false → Unused (noted v used r) (namesOf v rs)
       → Unused used (namesOf v (r ∷ rs))
   unused-on used r rs = go (namesAComponent v (r .kind))
     where
@@ -67,7 +67,7 @@ module _ (v : Rules) where
           let w = ih t (later-through _ _ h) in
           (step (k .moves) (w .0), unused-on used r rs (k .is-new) (w .1))
 
-  unused-back : (used : List Named) (r : Rec) (rs : List Rec) → Unused used (namesOf v (r ∷ rs))
+  pub unused-back : (used : List Named) (r : Rec) (rs : List Rec) → Unused used (namesOf v (r ∷ rs))
       → (repeats v used r ≡ false) × Unused (noted v used r) (namesOf v rs)
   unused-back used r rs = go (namesAComponent v (r .kind))
     where
@@ -94,7 +94,7 @@ module _ (v : Rules) where
   leads-accepted : {st en : State} {rs : List Rec} → Leads v st rs en → accepting en ≡ true → accepts v st rs ≡ true
   leads-accepted l e = let x = leads-accepts v l [] in (rw append-nil at x) ∙ e
 
-  leads-one : {st a b : State} {rs : List Rec} → Leads v st rs a → Leads v st rs b → a ≡ b
+  pub leads-one : {st a b : State} {rs : List Rec} → Leads v st rs a → Leads v st rs b → a ≡ b
   leads-one here here = refl
   leads-one {b = b} (step {mid = m} {rs = rs} e k) (step {mid = n} d l) = let z : n ≡ m = cc in leads-one k (subst (λ (x : State). Leads v x rs b) z l)
 
@@ -115,7 +115,7 @@ module _ (v : Rules) where
   abbrev pub Viable : List Rec → Type 0
   Viable rs = (more : List Rec) × Permitted v (rs ++ more) × Distinct v (rs ++ more)
 
-  sane-leads : {st en : State} {rs : List Rec} → Leads v st rs en → Sane v st → Sane v en
+  pub sane-leads : {st en : State} {rs : List Rec} → Leads v st rs en → Sane v st → Sane v en
   sane-leads here h = h
   sane-leads (step {r = r} e k) h = sane-leads k (subst (SaneOf v) e (sane-advance v r h))
 

@@ -5,8 +5,8 @@ use mathlib.Core.List.{List, [], _∷_, _++_}
 use mathlib.Core.Bool.{Bool, true, false, cond}
 use native.Mathlib.Omega.{arith}
 use native.Mathlib.Nat.{add-zero}
-use borrow.Author.Tests.{eqb-true, ltb-true, ltb-false}
-use lib.Dec.{eqb, ltb}
+use borrow.Author.Tests.{ltb-true, ltb-false}
+use lib.Dec.{ltb}
 use lib.IntN.{ℤ}
 use lib.ListN.{length, take, drop, length-drop}
 use lib.Seq.{drop-drop, length-take-le}
@@ -14,7 +14,7 @@ use Rattle.text.specs.Lines.{endLen, contentLen, lineEnd, linesOf}
 use Rattle.law.specs.Lines.{File, Free}
 use Rattle.basics.proofs.Lists.{at-end}
 use Rattle.text.proofs.LineLaws.{content-le, line-inside, lines-none, lines-first}
-use Rattle.text.proofs.LineSpelling.{lines-complete, lines-unique}
+use Rattle.text.proofs.LineSpelling.{content-after, lines-complete, lines-unique}
 use Rattle.law.specs.Values.{Rec}
 use Rattle.law.specs.Fits.{under}
 use Rattle.law.specs.declared.Context.{Context}
@@ -40,16 +40,6 @@ use Rattle.shown_told.proofs.WholeFiles.{accepted-exactly}
 use Rattle.law.specs.RowPlaces as rows
 use Rattle.law.specs.RowPlaces.{RowOf, RowsAt}
 use Rattle.shown_places.proofs.LineRows.{Rowed, line-rowed}
-
--- behind a line's content stands what ends it, or nothing
-pub content-after : (s : List ℕ) (c : ℕ) (t : List ℕ) → drop (contentLen s) s ≡ c ∷ t → c ≡ 10
-unfolding contentLen endLen
-content-after [] c t e = let z : _≡_ {A = ℕ} 0 1 = cc in absurd (omega arith)
-content-after (b ∷ s) c t e = go (eqb b 10) refl e (content-after s c t)
-  where
-    go : (q : Bool) → eqb b 10 ≡ q → drop (cond (ltb 0 (cond q 1 0)) 0 (suc (contentLen s))) (b ∷ s) ≡ c ∷ t → (drop (contentLen s) s ≡ c ∷ t → c ≡ 10) → c ≡ 10
-    go true h e ih = let f : b ≡ c = cc in omega (arith, eqb-true b 10 h)
-    go false h e ih = ih e
 
 -- as `RowsAt`, of lines of which it is known only that they are not free
 data RowsIn : ℕ → List (List ℕ) → List Rec → List ℤ → Type 0 where

@@ -9,7 +9,7 @@ use borrow.Author.Tests.{eq-eqb}
 use lib.Dec.{eqb}
 use lib.IntN.{ℤ, pos}
 use lib.ListN.{length, take, drop, replicate, length-drop, length-append}
-use lib.Seq.{drop-drop, set-append-seam, length-take-le}
+use lib.Seq.{drop-drop, length-take-le}
 use Rattle.law.specs.Fields.{Field, field}
 use Rattle.text_fields.specs.FirstField.{fieldOf}
 use Rattle.text_fields.specs.Fields.{fieldsBy, fieldsIn, fieldsOf}
@@ -26,6 +26,7 @@ use Rattle.form_layouts.proofs.KindLaws.{nine}
 use Rattle.line_rows.specs.Rows.{entryOf, entryBy, entryAt, putOne, putEntry, begun, fillFrom, filled}
 use Rattle.line_rows.specs.declared.Filling.{Filling}
 use Rattle.line_rows.proofs.LookLaws.{got-lies, some-before}
+use Rattle.line_rows.proofs.RowMeaning.{Stands, stands-one}
 use Rattle.basics.proofs.Bools.{none-some}
 use Rattle.law.specs.RecordSpelling.{SpellsField, SpellsFields, asText, asReference, asDate, asInteger, asNumber, asWord, none as noFields, more}
 use Rattle.shown_spelling.proofs.ValueSpelling.{field-complete, values-sound}
@@ -41,21 +42,6 @@ value-wide p (asDate d) = refl
 value-wide p (asInteger h) = refl
 value-wide p (asNumber h i) = refl
 value-wide p (asWord h) = refl
-
--- A row as it is filled: these columns are in it, n more have room, the place in the line is m, and nothing is refused
-record Stands (cs : List ℤ) (n m : ℕ) (f : Filling) : Type 0 where
-  row : f .row ≡ cs ++ replicate n (pos 0)
-  column : f .column ≡ length cs
-  place : f .at ≡ m
-  fine : f .refused ≡ 0
-
-stands-one : (cs : List ℤ) (n m : ℕ) (f : Filling) (z : ℤ) (j : ℕ) → Stands cs (suc n) m f → Stands (cs ++ (z ∷ [])) n j (putOne f z j)
-stands-one cs n m f z j x = record {
-  row = rw (x .row, x .column) (set-append-seam cs (pos 0) (replicate n (pos 0)) z ∙ sym (append-assoc cs (z ∷ []) (replicate n (pos 0))));
-  column = omega (arith, x .column, length-append cs (z ∷ []));
-  place = refl;
-  fine = x .fine;
-}
 
 -- where a field of l bytes begins at b + a
 abbrev spotAt : ℕ → Bool → List ℕ → Spot

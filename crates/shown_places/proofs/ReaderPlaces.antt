@@ -13,7 +13,7 @@ use Rattle.law.specs.Bytes.{begins}
 use Rattle.law.specs.Lines.{File, none, last, next}
 use Rattle.text.specs.Lines.{endLen, contentLen, lineEnd}
 use Rattle.text.proofs.LineLaws.{content-le, lines-first}
-use Rattle.text.proofs.LineSpelling.{lines-complete}
+use Rattle.text.proofs.LineSpelling.{content-after, lines-complete}
 use Rattle.text_fields.specs.FirstField.{fieldOf}
 use Rattle.text_fields.specs.declared.FieldAnswer.{FieldAnswer}
 use Rattle.text_fields.specs.declared.FieldAnswer.the-variants.{Nothing, Got, Broken}
@@ -22,7 +22,6 @@ use Rattle.viewer.specs.Views.{lineAt, nextAt, placesBy, placesIn, placesOf}
 use Rattle.law.specs.FieldPlaces.{Spot, SpelledAt, numbersOf}
 use Rattle.law.specs.Viewing.{placeBehind}
 use Rattle.shown_places.proofs.Spots.{spotsBy, spotsIn, spots-in}
-use Rattle.shown_places.proofs.FileRows.{content-after}
 
 numbers-by : (x : FieldAnswer) (b : ℕ) (s : List ℕ) → fieldOf s ≡ x → (later : ℕ → List Spot) (rest : ℕ → List ℤ) → ((m : ℕ) → rest m ≡ numbersOf (later m))
     → placesBy x b rest ≡ numbersOf (spotsBy x b s later)

@@ -11,12 +11,11 @@ use Rattle.basics.specs.Integers.{eqZ}
 use Rattle.law.specs.Values.{Value, Rec}
 use Rattle.law.specs.Fits.{meaning}
 use Rattle.law.specs.Layouts.{typesOf}
-use Rattle.form_layouts.specs.Letters.{widthOf}
 use Rattle.law.specs.declared.Rules.the-variants.{Idf3}
 use Rattle.law.specs.declared.FieldType.{FieldType}
 use Rattle.law.specs.declared.FieldType.the-variants.{Text as T, Reference as Ref, Date as D, Integer as I, Number as N, Word as W}
 use Rattle.law.specs.Rows.{isText, isNumber, Means, none, aNumber, aWord, aDate, aText, Holds}
-use Rattle.line_rows.proofs.MeaningLaws.{not-both}
+use Rattle.line_rows.proofs.MeaningLaws.{not-both, number-wide, text-wide}
 use Rattle.same.specs.Ignoring.{nothing, ignoredAt}
 use Rattle.same.specs.SameRows.{holdsBytes, countsAs, sameField, agreesAt, sameFrom, sameRow}
 use Rattle.shown_same.proofs.Values.{sameValues, sameRec}
@@ -40,14 +39,6 @@ number-held I h = refl
 number-held (N l) h = refl
 number-held (W l) h = absurd (false≢true h)
 
-number-wide : (t : FieldType) → isNumber t ≡ true → widthOf t ≡ 1
-number-wide T h = absurd (false≢true h)
-number-wide Ref h = absurd (false≢true h)
-number-wide D h = absurd (false≢true h)
-number-wide I h = refl
-number-wide (N l) h = refl
-number-wide (W l) h = refl
-
 text-held : (t : FieldType) → isText t ≡ true → holdsBytes t ≡ true
 text-held T h = refl
 text-held Ref h = refl
@@ -55,14 +46,6 @@ text-held D h = absurd (false≢true h)
 text-held I h = absurd (false≢true h)
 text-held (N l) h = absurd (false≢true h)
 text-held (W l) h = absurd (false≢true h)
-
-text-wide : (t : FieldType) → isText t ≡ true → widthOf t ≡ 2
-text-wide T h = refl
-text-wide Ref h = refl
-text-wide D h = refl
-text-wide I h = absurd (false≢true h)
-text-wide (N l) h = absurd (false≢true h)
-text-wide (W l) h = absurd (false≢true h)
 
 text-counts : (t : FieldType) (s : List ℕ) → isText t ≡ true → countsAs t s ≡ meaning t s
 text-counts T s h = refl

@@ -34,7 +34,7 @@ use Rattle.law.specs.declared.FieldType.{FieldType}
 use Rattle.law.specs.declared.FieldType.the-variants.{Text as T, Reference as Ref, Date as D, Integer as I, Number as N, Word as W}
 use Rattle.law.specs.Numbers.{SpellsNumber}
 use Rattle.shown_spelling.proofs.ValueSpelling.{field-sound, field-complete}
-use Rattle.law.specs.FieldFaults.{Spellless, FaultyField, no-integer, quoted-number, no-number, too-fine, other-version, beyond-limit, no-word, no-date, barred-board, FaultyFields, here, later}
+use Rattle.law.specs.FieldFaults.{NoValue, FaultyField, no-integer, quoted-number, no-number, too-fine, other-version, beyond-limit, no-word, no-date, barred-board, FaultyFields, here, later}
 use Rattle.shown_spelling.proofs.MagnitudeSpelling.{isNumber, magnitude-sound, magnitude-complete}
 
 no-refusal : {A : Type 0} {a : A} {n : ℕ} → good a ≡ refused n → ⊥
@@ -74,8 +74,8 @@ module _ (c : Context) where
   limit-fault R p w = beyond-limit (not-version R refl) p w
   limit-fault Ver p w = other-version p w
 
-  spellless : {t : FieldType} {f : Field} {n : ℕ} → readField c t f ≡ refused n → Spellless c t f
-  spellless e x p = no-refusal (sym (field-complete p) ∙ e)
+  no-value : {t : FieldType} {f : Field} {n : ℕ} → readField c t f ≡ refused n → NoValue c t f
+  no-value e x p = no-refusal (sym (field-complete p) ∙ e)
 
   -- Sound: a refused field is faulty by its number
   count-fault : (l : Limit) (s : List ℕ) (n : ℕ) (a : NumberAnswer) → readNumber (kept c l) (largest l) s ≡ a → ofCount c l a ≡ refused n → FaultyField c (N l) (field false s) n
@@ -95,34 +95,34 @@ module _ (c : Context) where
   field-fault Ref (field q s) n e = go (barred c (meaning Ref s)) refl
     where
       go : (b : Bool) → barred c (meaning Ref s) ≡ b → FaultyField c Ref (field q s) n
-      go true h = subst (FaultyField c Ref (field q s)) (one-refusal (rw h at e)) (barred-board (spellless e))
+      go true h = subst (FaultyField c Ref (field q s)) (one-refusal (rw h at e)) (barred-board (no-value e))
       go false h = absurd (no-refusal (rw h at e))
-  field-fault D (field true s) n e = subst (FaultyField c D (field true s)) (one-refusal e) (no-date (spellless e))
+  field-fault D (field true s) n e = subst (FaultyField c D (field true s)) (one-refusal e) (no-date (no-value e))
   field-fault D (field false s) n e = go (isDate s) refl
     where
       go : (b : Bool) → isDate s ≡ b → FaultyField c D (field false s) n
       go true h = absurd (no-refusal (rw h at e))
-      go false h = subst (FaultyField c D (field false s)) (one-refusal (rw h at e)) (no-date (spellless e))
-  field-fault I (field true s) n e = subst (FaultyField c I (field true s)) (one-refusal e) (no-integer (spellless e))
+      go false h = subst (FaultyField c D (field false s)) (one-refusal (rw h at e)) (no-date (no-value e))
+  field-fault I (field true s) n e = subst (FaultyField c I (field true s)) (one-refusal e) (no-integer (no-value e))
   field-fault I (field false s) n e = go (readInteger s) refl
     where
       go : (a : WholeAnswer) → readInteger s ≡ a → FaultyField c I (field false s) n
       go (Whole z) h = absurd (no-refusal (rw h at e))
-      go NotInteger h = subst (FaultyField c I (field false s)) (one-refusal (rw h at e)) (no-integer (spellless e))
+      go NotInteger h = subst (FaultyField c I (field false s)) (one-refusal (rw h at e)) (no-integer (no-value e))
   field-fault (N l) (field true s) n e = subst (FaultyField c (N l) (field true s)) (one-refusal e) quoted-number
   field-fault (N l) (field false s) n e = count-fault l s n (readNumber (kept c l) (largest l) s) refl e
-  field-fault (W l) (field true s) n e = subst (FaultyField c (W l) (field true s)) (one-refusal e) (no-word (spellless e))
+  field-fault (W l) (field true s) n e = subst (FaultyField c (W l) (field true s)) (one-refusal e) (no-word (no-value e))
   field-fault (W l) (field false s) n e = go (placeOf (wordsOf (c .rules) l) s) refl
     where
       go : (o : Option ℕ) → placeOf (wordsOf (c .rules) l) s ≡ o → FaultyField c (W l) (field false s) n
-      go none h = subst (FaultyField c (W l) (field false s)) (one-refusal (rw h at e)) (no-word (spellless e))
+      go none h = subst (FaultyField c (W l) (field false s)) (one-refusal (rw h at e)) (no-word (no-value e))
       go (some m) h = absurd (no-refusal (rw h at e))
 
   -- Complete: the types by which a field without a value is refused by one number
   abbrev Only : FieldType → ℕ → Type 0
   Only t n = (f : Field) (m : ℕ) → readField c t f ≡ refused m → m ≡ n
 
-  only : (t : FieldType) (n : ℕ) (f : Field) → Only t n → Spellless c t f → readField c t f ≡ refused n
+  only : (t : FieldType) (n : ℕ) (f : Field) → Only t n → NoValue c t f → readField c t f ≡ refused n
   only t n f o h = go (readField c t f) refl
     where
       go : (a : Reply Value) → readField c t f ≡ a → a ≡ refused n

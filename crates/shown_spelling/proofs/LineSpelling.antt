@@ -45,7 +45,7 @@ LineBy s (bad n) = Unit {0}
 LineBy s (keyLine w fs) = KeyLine s w fs
 LineBy s (dataLine fs) = DataLine s fs
 
-begins-cons : (a : ℕ) (v : List ℕ) → begins a v ≡ true → (u : List ℕ) × (v ≡ a ∷ u)
+pub begins-cons : (a : ℕ) (v : List ℕ) → begins a v ≡ true → (u : List ℕ) × (v ≡ a ∷ u)
 unfolding begins
 begins-cons a [] h = absurd (false≢true h)
 begins-cons a (b ∷ u) h = (u, ap (λ (x : ℕ). x ∷ u) (eqb-true b a h))

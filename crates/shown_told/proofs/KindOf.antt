@@ -3,7 +3,7 @@ use Prim.Native.Nat.{ℕ}
 use mathlib.Core.Path.{_≡_, refl, sym, ap, _∙_, subst}
 use mathlib.Core.Logic.{_⊎_, inl, inr}
 use mathlib.Core.List.{List, [], _∷_}
-use mathlib.Core.Option.{Option, none, some}
+use mathlib.Core.Option.{some}
 use mathlib.Core.Bool.{Bool, true, false, false≢true}
 use native.Mathlib.Omega.{arith}
 use borrow.Author.Tests.{eqb-true, eq-eqb}
@@ -11,8 +11,7 @@ use lib.Dec.{eqb}
 use Rattle.law.specs.Fields.{Field, field}
 use Rattle.law.specs.Values.{Rec}
 use Rattle.form.specs.Values.{good}
-use Rattle.law.specs.Sections.{Shape, header, outline, component, keepout, listing, placements, sectionAt}
-use Rattle.law.specs.Sections.{SectionForm}
+use Rattle.law.specs.Sections.{Shape, header, outline, component, keepout, listing, placements}
 use Rattle.law.specs.Words.{propWord, sameBytes}
 use Rattle.law.specs.Kinds as role
 use Rattle.law.specs.Kinds.{kindAt, sectionOf, Role, unknown, roleIn, roleOf}
@@ -31,14 +30,15 @@ use Rattle.order.specs.declared.Phase.the-variants.{AwaitTitle, AwaitName, Head
 use Rattle.order.specs.declared.State.{State}
 use Rattle.order.specs.declared.State.the-variants.{Between as between, Inside as inside}
 use Rattle.basics.proofs.Bools.{both, not-both, none-some}
-use Rattle.shown_lists.proofs.Roles.{isSome, isSection, role-known}
+use Rattle.shown_lists.proofs.Roles.{isSection, role-known}
 use Rattle.shown_lists.proofs.Tables.{section-at, role-at, laid}
 use Rattle.shown_lists.proofs.ByPlace.{ByPlace, kind-by, kind-by-place}
 use Rattle.shown_lists.proofs.CompletePoints.{Leads}
 use Rattle.shown_spelling.proofs.Logic.{refused-good, cond-good}
-use Rattle.shown_spelling.proofs.KeywordLaws.{IsSection, keyword-at, keyword-is, section-named}
+use Rattle.shown_spelling.proofs.KeywordLaws.{IsSection, keyword-at, keyword-is}
 use Rattle.shown_told.specs.Told.{ownFields}
 use Rattle.shown_told.proofs.Fronts.{frontAt, front-is, stands-known, zero-unknown}
+use Rattle.shown_told.proofs.LineComplete.{named}
 use Rattle.shown_told.proofs.LineSound.{Known, Behind, data-known, key-behind}
 use Rattle.law.specs.LineFaults.{Suits, IsOf}
 use Rattle.shown_told.proofs.Apart.{stands-may}
@@ -76,13 +76,6 @@ of-data role.entry s fs gs e = record { not-opening = refl; not-closing = refl; 
 of-data role.part s fs gs e = record { not-opening = refl; not-closing = refl; by-prop = λ h. absurd (false≢true h) }
 of-data role.position s fs gs e = record { not-opening = refl; not-closing = refl; by-prop = λ h. absurd (false≢true h) }
 of-data role.unknown s fs gs e = record { not-opening = refl; not-closing = refl; by-prop = λ h. absurd (false≢true h) }
-
-named : (v : Rules) (s : ℕ) → isSection v s ≡ true → IsSection s
-named v s = go (sectionAt v s) refl
-  where
-    go : (o : Option SectionForm) → sectionAt v s ≡ o → isSome o ≡ true → IsSection s
-    go none e h = absurd (false≢true h)
-    go (some d) e h = section-named v s e
 
 module _ (v : Rules) (st : State) where
   -- the kind that a line is read as, and its own fields

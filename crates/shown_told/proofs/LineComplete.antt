@@ -114,7 +114,7 @@ module _ (a : Role) (b : Bool) (c : isRole a role.closing ≡ false) (is-prop : 
   same-line f AwaitPosition h = refl
 
 -- a section of the table has a name
-named : (v : Rules) (s : ℕ) → isSection v s ≡ true → IsSection s
+pub named : (v : Rules) (s : ℕ) → isSection v s ≡ true → IsSection s
 named v s = go (sectionAt v s) refl
   where
     go : (o : Option SectionForm) → sectionAt v s ≡ o → isSome o ≡ true → IsSection s

@@ -4,7 +4,7 @@ use mathlib.Core.Path.{_≡_, refl, sym, ap, _∙_, subst}
 use mathlib.Core.Logic.{_≢_, _⊎_, inl, inr}
 use mathlib.Core.List.{List, [], _∷_, _++_}
 use mathlib.Core.Option.{Option, none, some}
-use mathlib.Core.Bool.{Bool, true, false, cond, _&&_}
+use mathlib.Core.Bool.{Bool, true, false, cond}
 use native.Mathlib.Omega.{arith}
 use lib.Dec.{eqb}
 use lib.ListN.{length}
@@ -22,9 +22,9 @@ use Rattle.law.specs.declared.FileType.{FileType}
 use Rattle.order_loops.specs.Loops.{loopAfter, complete}
 use Rattle.order_loops.specs.declared.LoopState.{LoopState}
 use Rattle.rows.specs.declared.Point.{Point}
-use Rattle.law.specs.Records.{manyLoops, typeIn, Named, namesAComponent, nameIn}
+use Rattle.law.specs.Records.{manyLoops, typeIn, Named}
 use Rattle.order.specs.Marks.{pointOf}
-use Rattle.order.specs.Automaton.{start, roleNumber, refusalNumber, afterPoint, onlyIf, movedBy, moved, advance, typeAt, mayStand, isAmong, repeats, noted, unless, admit}
+use Rattle.order.specs.Automaton.{start, roleNumber, refusalNumber, afterPoint, onlyIf, movedBy, moved, advance, typeAt, mayStand, repeats, noted, unless, admit}
 use Rattle.order.specs.declared.Phase.{Phase}
 use Rattle.order.specs.declared.Phase.the-variants.{AwaitTitle as awaitTitle, AwaitName as awaitName, HeaderFull as headerFull, AwaitLead as awaitLead, InPoints as inPoints, InProps as inProps, InList as inList, AwaitPart as awaitPart, AwaitPosition as awaitPosition}
 use Rattle.order.specs.declared.State.{State}
@@ -36,8 +36,8 @@ use Rattle.order.specs.declared.Outcome.the-variants.{Next as next, Refused as 
 use Rattle.order.proofs.Steps.{advance-is}
 use Rattle.law.specs.Lists.{Permitted, Distinct, namesOf}
 use Rattle.basics.proofs.Bools.{not-both}
-use Rattle.shown_lists.proofs.Names.{not-among, among-false, Unused, unused-none, unused-one, unused-differ, differ-unused}
-use Rattle.shown_lists.proofs.FirstLine.{taken}
+use Rattle.shown_lists.proofs.Names.{Unused, unused-none, unused-differ, differ-unused}
+use Rattle.shown_lists.proofs.FirstLine.{taken, unused-on, unused-back, leads-one}
 use Rattle.shown_lists.proofs.Complete.{permitted-accepted}
 use Rattle.shown_lists.proofs.CompletePoints.{Leads, here, step}
 use Rattle.law.specs.RecordSpelling.{SpellsFields}
@@ -55,7 +55,7 @@ use Rattle.shown_told.proofs.Readings.{Through, done, pass, take-in}
 use Rattle.law.specs.FieldFaults.{FaultyFields}
 use Rattle.law.specs.LineFaults.{HasFields, whereAfter, Suits, IsOf, LineOf, HasRecord, Faulty, by-3, by-4, by-5, free-5, by-6, by-field, by-11, by-12}
 use Rattle.shown_spelling.proofs.FieldNumbers.{fields-fault, fields-miscounted, fields-refused}
-use Rattle.shown_told.proofs.Apart.{next-same, refused-next, stands-may, accepts-part, accepts-one}
+use Rattle.shown_told.proofs.Apart.{refused-next, stands-may, accepts-part, accepts-one}
 use Rattle.shown_told.proofs.Standing.{carries-on}
 use Rattle.shown_told.proofs.Looks.{Seen, line-seen, line-of, first-not-bad}
 use Rattle.shown_told.proofs.KindOf.{kindIn, ownIn, kind-behind, suits-may, is-of, one-kind}
@@ -108,32 +108,16 @@ module _ (v : Rules) where
   usedBy used [] = used
   usedBy used (r ∷ rs) = usedBy (noted v used r) rs
 
-  unused-on : (used : List Named) (r : Rec) (rs : List Rec) → repeats v used r ≡ false → Unused (noted v used r) (namesOf v rs) → Unused used (namesOf v (r ∷ rs))
-  unused-on used r rs = go (namesAComponent v (r .kind))
-    where
-      go : (b : Bool) → (b && isAmong (nameIn r) used) ≡ false → Unused (cond b (nameIn r ∷ used) used) (namesOf v rs)
-          → Unused used (cond b (nameIn r ∷ namesOf v rs) (namesOf v rs))
-      go true h u = unused-one (not-among _ _ h) u
-      go false h u = u
-
-  unused-back : (used : List Named) (r : Rec) (rs : List Rec) → Unused used (namesOf v (r ∷ rs)) → (repeats v used r ≡ false) × Unused (noted v used r) (namesOf v rs)
-  unused-back used r rs = go (namesAComponent v (r .kind))
-    where
-      go : (b : Bool) → Unused used (cond b (nameIn r ∷ namesOf v rs) (namesOf v rs))
-          → ((b && isAmong (nameIn r) used) ≡ false) × Unused (cond b (nameIn r ∷ used) used) (namesOf v rs)
-      go true (unused-one n u) = (among-false n, u)
-      go false u = (refl, u)
-
   unused-new : (used : List Named) (rs : List Rec) (r : Rec) → Unused used (namesOf v (rs ++ (r ∷ []))) → repeats v (usedBy used rs) r ≡ false
-  unused-new used [] r u = unused-back used r [] u .0
-  unused-new used (q ∷ rs) r u = unused-new (noted v used q) rs r (unused-back used q (rs ++ (r ∷ [])) u .1)
+  unused-new used [] r u = unused-back v used r [] u .0
+  unused-new used (q ∷ rs) r u = unused-new (noted v used q) rs r (unused-back v used q (rs ++ (r ∷ [])) u .1)
 
   new-unused : {used : List Named} {st en : State} {ls : List (List ℕ)} {rs : List Rec} (r : Rec) → Through v used st ls rs en → repeats v (usedBy used rs) r ≡ false
       → Unused used (namesOf v (rs ++ (r ∷ [])))
-  new-unused {used} r done h = unused-on used r [] h unused-none
+  new-unused {used} r done h = unused-on v used r [] h unused-none
   new-unused r (pass e k) h = new-unused r k h
   new-unused {used} {st} r (take-in {mid = t} {l = l} {r = q} {rs = rs} e k) h =
-      unused-on used q (rs ++ (r ∷ [])) (taken v used st t q (line-sound v used st l q t e .1) .is-new) (new-unused r k h)
+      unused-on v used q (rs ++ (r ∷ [])) (taken v used st t q (line-sound v used st l q t e .1) .is-new) (new-unused r k h)
 
   -- the records of lines lead where the lines do
   pub through-leads : {used : List Named} {st en : State} {ls : List (List ℕ)} {rs : List Rec} → Through v used st ls rs en → Leads v st rs en
@@ -147,10 +131,6 @@ module _ (v : Rules) where
   through-where {used} {st} (take-in {mid = t} {l = l} {r = q} {rs = rs} e k) =
       ap (λ (w : Where). whereAfter v w rs) (leads-where v used st t q (line-sound v used st l q t e .1)) ∙ through-where k
 
-  leads-one : {st en mid : State} {rs : List Rec} → Leads v st rs en → Leads v st rs mid → en ≡ mid
-  leads-one here here = refl
-  leads-one {mid = mid} (step {rs = rs} e k) (step f l) = leads-one k (subst (λ (x : State). Leads v x rs mid) (next-same (sym f ∙ e)) l)
-
   module _ {ls : List (List ℕ)} {rs : List Rec} {st : State} (th : Through v [] start ls rs st) where
     abbrev used : List Named
     used = usedBy [] rs
@@ -163,7 +143,7 @@ module _ (v : Rules) where
     moves-on r more p =
         let w = accepts-part v rs (r ∷ more) start (permitted-accepted v p) in
         let t = accepts-one v r more (w .0) (w .2) in
-        (t .0, subst (λ (x : State). advance v x r ≡ next (t .0)) (leads-one (w .1) y) (t .1))
+        (t .0, subst (λ (x : State). advance v x r ≡ next (t .0)) (leads-one v (w .1) y) (t .1))
 
     module _ (l : List ℕ) where
       -- Sound

@@ -6,7 +6,7 @@ use mathlib.Core.List.{List, [], _∷_}
 use mathlib.Core.Option.{Option, none, some}
 use mathlib.Core.Bool.{Bool, true, false, cond, false≢true}
 use native.Mathlib.Omega.{arith}
-use borrow.Author.Tests.{eqb-true, not-true}
+use borrow.Author.Tests.{not-true}
 use Rattle.law.specs.Bytes.{permitted, All, allOf, begins}
 use Rattle.law.specs.Fields.{Field, field, Spelled}
 use Rattle.law.specs.Lines.{Free, comment}
@@ -21,6 +21,7 @@ use Rattle.form.specs.Reading.{Line, free, bad, keyLine, dataLine, byFirst, byF
 use Rattle.basics.proofs.Bytes.{bytes-true, bytes-same}
 use Rattle.law.specs.RecordSpelling.{isData}
 use Rattle.shown_spelling.proofs.Logic.{refused-good, cond-good}
+use Rattle.shown_spelling.proofs.LineSpelling.{begins-cons}
 use Rattle.shown_spelling.proofs.WordSpelling.{case-folds, folds-case}
 use Rattle.shown_told.proofs.FreeLines.{free-line, line-free}
 use Rattle.law.specs.LineFaults.{Fronted, withKeyword, withProp, asData, HasFields}
@@ -31,11 +32,6 @@ Seen l free = Free l
 Seen l (bad n) = ((n ≡ 3) × (All permitted l → ⊥)) ⊎ ((n ≡ 4) × All permitted l × ((fs : List Field) → Spelled fs l → ⊥))
 Seen l (keyLine w gs) = (fs : List Field) × HasFields l fs × (lineAs l ≡ byFirst fs)
 Seen l (dataLine gs) = (fs : List Field) × HasFields l fs × (lineAs l ≡ byFirst fs)
-
-begins-cons : (a : ℕ) (s : List ℕ) → begins a s ≡ true → (u : List ℕ) × (s ≡ a ∷ u)
-unfolding begins
-begins-cons a [] h = absurd (false≢true h)
-begins-cons a (b ∷ u) h = (u, ap (λ (x : ℕ). x ∷ u) (eqb-true b a h))
 
 not-free : {l : List ℕ} {x : Line} → lineAs l ≡ x → (x ≡ free → ⊥) → Free l → ⊥
 not-free e n f = n (sym e ∙ free-line f)

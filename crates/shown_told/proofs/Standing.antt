@@ -45,7 +45,8 @@ use Rattle.shown_lists.proofs.Names.{letters, letters-text}
 use Rattle.shown_lists.proofs.ByPlace.{kind-by}
 use Rattle.shown_lists.proofs.CompletePoints.{Leads, here, step, leads-append, leads-accepts, open-step, in-step, point-step, second-after, goes-on}
 use Rattle.shown_lists.proofs.Sound.{accepted-permitted}
-use Rattle.shown_lists.proofs.Sane.{Sane, sane-between, sane-inside, sane-points, SaneOf, sane-advance}
+use Rattle.shown_lists.proofs.Sane.{Sane, sane-between, sane-inside, sane-points}
+use Rattle.shown_lists.proofs.FirstLine.{sane-leads}
 use Rattle.shown_lists.proofs.Viable.{Ending, quietly, with-one, ending}
 use Rattle.shown_told.proofs.Fronts.{stands-known}
 use Rattle.law.specs.LineFaults.{isPoint, withoutPoints, Stands}
@@ -130,10 +131,6 @@ module _ (v : Rules) where
       go true = fresh-in g s p (roleOf v (r .kind)) (wellFormed (under v (fileOf g)) r) r n
       go false = tt
 
-  pub sane-leads : {st en : State} {rs : List Rec} → Leads v st rs en → Sane v st → Sane v en
-  sane-leads here h = h
-  sane-leads (step {r = r} e k) h = sane-leads k (subst (SaneOf v) e (sane-advance v r h))
-
   -- an end from a state
   ends : (st : State) → Sane v st → (more : List Rec) × (accepts v st more ≡ true)
   ends st h = go (ending v (letters 0) (letters-text 0) h)
@@ -145,7 +142,7 @@ module _ (v : Rules) where
   -- a list that goes on with a record is permitted with some end
   pub carries-on : {qs : List Rec} {st t : State} (r : Rec) → Leads v start qs st → advance v st r ≡ next t → (more : List Rec) × Permitted v (qs ++ (r ∷ more))
   carries-on {qs} {st} {t} r l e =
-      let w = ends t (sane-leads (leads-append v l (step e here)) sane-between) in
+      let w = ends t (sane-leads v (leads-append v l (step e here)) sane-between) in
       (w .0, accepted-permitted v (qs ++ (r ∷ w .0)) (leads-accepts v l (r ∷ w .0) ∙ rw e (w .1)))
 
   -- a list that leads among points, without the points of the section that is open
@@ -265,7 +262,7 @@ module _ (v : Rules) where
       stands-in (awaitName t) y m = leads-on (awaitName t) y (one-next (isRole its name) (inside g s (headerFull t)) m)
       stands-in (headerFull t) y m = leads-on (headerFull t) y (one-next (isRole its closing) (between (headed t)) m)
       stands-in awaitLead y m = leads-on awaitLead y (one-next (isRole its lead) (inside g s (inPoints noPoint)) m)
-      stands-in (inPoints l) y m = stands-points g s l y e u m (sane-leads y sane-between)
+      stands-in (inPoints l) y m = stands-points g s l y e u m (sane-leads v y sane-between)
       stands-in inProps y m = leads-on inProps y (or-next (isRole its prop) (isRole its closing) (inside g s inProps) (between (after g s)) m)
       stands-in inList y m = leads-on inList y (or-next (isRole its entry) (isRole its closing) (inside g s inList) (between (after g s)) m)
       stands-in awaitPart y m = leads-on awaitPart y (or-next (isRole its part) (isRole its closing) (inside g s awaitPosition) (between (after g s)) m)

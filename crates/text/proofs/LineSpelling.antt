@@ -27,7 +27,7 @@ content-all (b ∷ s) = go (eqb b 10) refl (content-all s)
     go false h a = by.one (ap not h) a
 
 -- and what stands behind it is one
-content-after : (s : List ℕ) (c : ℕ) (t : List ℕ) → drop (contentLen s) s ≡ c ∷ t → c ≡ 10
+pub content-after : (s : List ℕ) (c : ℕ) (t : List ℕ) → drop (contentLen s) s ≡ c ∷ t → c ≡ 10
 unfolding contentLen endLen
 content-after [] c t e = let z : _≡_ {A = ℕ} 0 1 = cc in absurd (omega arith)
 content-after (b ∷ s) c t e = go (eqb b 10) refl e (content-after s c t)

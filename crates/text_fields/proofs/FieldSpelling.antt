@@ -14,6 +14,7 @@ use Rattle.basics.proofs.Bools.{none-some}
 use Rattle.law.specs.Bytes as sp
 use Rattle.law.specs.Bytes.{isSpace, inBare, inQuotes, All}
 use Rattle.law.specs.Fields.{Field, field, Spells, Spelled, bare, quoted, end, space, last, next}
+use Rattle.law.specs.FieldPlaces.{Spot, spotOf}
 use Rattle.text_fields.specs.FirstField.{span, endsWell, bareAt, closedAt, quotedAt, fieldAt, fieldOf}
 use Rattle.text_fields.specs.Fields.{before, fieldsBy, fieldsIn, fieldsOf, countOf}
 use Rattle.text_fields.specs.declared.CountAnswer.the-variants.{Fields}
@@ -180,14 +181,16 @@ span-append p [] sp.none h = refl
 span-append p (b ∷ t) sp.none h = simp h
 span-append p {s} t (sp.one e a) h = simp (e, span-append p t a h)
 
--- What `fieldOf` answers at a spelled field that ends well
-record Read (f : Field) (s t : List ℕ) : Type 0 where
+-- What `fieldOf` answers at a spelled field that ends well, and where the field is if the line begins at b
+pub record Read (f : Field) (s t : List ℕ) : Type 0 where
   pub a : ℕ
   pub l : ℕ
   pub q : Bool
   pub m : ℕ
   pub is : fieldOf (s ++ t) ≡ Got a l q m
   pub same : field q (take l (drop a (s ++ t))) ≡ f
+  pub spot : (b : ℕ) → _≡_ {A = Spot} (record { at = b + a; what = field q (take l (drop a (s ++ t))) }) (spotOf b f)
+  pub long : m ≡ length s
   pub after : drop m (s ++ t) ≡ t
 
 bare-stops : (t : List ℕ) → endsWell t ≡ true → stops inBare t
@@ -208,6 +211,9 @@ span-none : (p : ℕ → Bool) (b : ℕ) (s : List ℕ) → p b ≡ false → sp
 unfolding span
 span-none p b s h = simp h
 
+spot-is : {a c : ℕ} {f g : Field} → a ≡ c → f ≡ g → _≡_ {A = Spot} (record { at = a; what = f }) (record { at = c; what = g })
+spot-is x y = λ i. record { at = x i; what = y i }
+
 bare-read : (b : ℕ) (s t : List ℕ) → All inBare (b ∷ s) → endsWell t ≡ true → Read (field false (b ∷ s)) (b ∷ s) t
 unfolding fieldOf fieldAt bareAt
 bare-read b s t (sp.one h a) e =
@@ -217,13 +223,16 @@ bare-read b s t (sp.one h a) e =
     let k : span isSpace u ≡ 0 = span-none isSpace b (s ++ t) (x .0) in
     let r : span inBare u ≡ n = span-append inBare t (sp.one h a) (bare-stops t e) in
     let d : drop n u ≡ t = drop-append-seam (b ∷ s) t in
+    let w : _≡_ {A = Field} (field false (take n u)) (field false (b ∷ s)) = ap (field false) (take-append-seam (b ∷ s) t) in
     record {
       a = 0;
       l = n;
       q = false;
       m = 0 + n;
       is = simp (k, x .1, r, d, e);
-      same = ap (field false) (take-append-seam (b ∷ s) t);
+      same = w;
+      spot = λ c. spot-is (omega arith) w;
+      long = omega arith;
       after = ap (λ (i : ℕ). drop i u) (zero-add n) ∙ d;
     }
 
@@ -231,17 +240,20 @@ quoted-read : (s t : List ℕ) → All inQuotes s → endsWell t ≡ true → Re
 unfolding fieldOf fieldAt quotedAt closedAt span stops
 quoted-read s t a e =
     let r : span inQuotes (s ++ (34 ∷ t)) ≡ length s = span-append inQuotes (34 ∷ t) a refl in
+    let w : _≡_ {A = Field} (field true (take (length s) (drop 1 ((34 ∷ (s ++ (34 ∷ []))) ++ t)))) (field true s) = simp (append-assoc, take-append-seam) in
     record {
       a = 1;
       l = length s;
       q = true;
       m = 1 + length s + 1;
       is = simp (append-assoc, r, drop-append-seam, e);
-      same = simp (append-assoc, take-append-seam);
+      same = w;
+      spot = λ c. spot-is refl w;
+      long = omega (arith, length-append s (34 ∷ []));
       after = drop-at (34 ∷ (s ++ (34 ∷ []))) t (1 + length s + 1) (omega (arith, length-append s (34 ∷ [])));
     }
 
-read : {f : Field} {s : List ℕ} (t : List ℕ) → Spells f s → endsWell t ≡ true → Read f s t
+pub read : {f : Field} {s : List ℕ} (t : List ℕ) → Spells f s → endsWell t ≡ true → Read f s t
 read t (bare {b = b} {s = s} a) e = bare-read b s t a e
 read t (quoted {s = s} a) e = quoted-read s t a e
 
@@ -249,12 +261,12 @@ read-step : {f : Field} {fs : List Field} (s t : List ℕ) (fuel : ℕ) → Read
 unfolding fieldsIn
 read-step s t fuel r e = simp (r .is, r .after, e, r .same)
 
-some-spells : {f : Field} {s : List ℕ} → Spells f s → 0 < length s
+pub some-spells : {f : Field} {s : List ℕ} → Spells f s → 0 < length s
 some-spells (bare a) = omega arith
 some-spells (quoted a) = omega arith
 
 -- A space in front moves the answer
-abbrev shift : FieldAnswer → FieldAnswer
+abbrev pub shift : FieldAnswer → FieldAnswer
 shift Nothing = Nothing
 shift (Got a l q m) = Got (suc a) l q (suc m)
 shift Broken = Broken
@@ -281,7 +293,7 @@ shift-at k (b ∷ t) = go (eqb b 34)
     go true = shift-closed k (span inQuotes t) (drop (span inQuotes t) t)
     go false = shift-bare k (b ∷ t)
 
-shift-of : (s : List ℕ) → fieldOf (32 ∷ s) ≡ shift (fieldOf s)
+pub shift-of : (s : List ℕ) → fieldOf (32 ∷ s) ≡ shift (fieldOf s)
 unfolding fieldOf span
 shift-of s = shift-at (span isSpace s) (drop (span isSpace s) s)
 

@@ -55,7 +55,7 @@ module _ (file : List ℕ) (w : Walk) (h : Steady file w) where
 
 -- what is left of a walk
 
-turn-past : (file : List ℕ) (w : Walk) → w .at < length file → w .at < turnOf file w .walk .at
+pub turn-past : (file : List ℕ) (w : Walk) → w .at < length file → w .at < turnOf file w .walk .at
 unfolding turnOf
 turn-past file w h = let k = line-inside (drop (w .at) file) .past (omega (arith, length-drop (w .at) file)) in omega arith
 

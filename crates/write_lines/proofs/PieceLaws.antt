@@ -1,5 +1,5 @@
 -- Laws of the pieces of a line, as the code leaves them.
-use Prim.Native.Nat.{ℕ, suc, _+_, _-_, _^_, _≤_, _<_}
+use Prim.Native.Nat.{ℕ, _+_, _-_, _^_, _≤_, _<_}
 use mathlib.Core.Path.{_≡_, refl, sym, ap, _∙_}
 use mathlib.Core.List.{List, [], _∷_, _++_}
 use mathlib.Core.Bool.{Bool, true, false, cond}
@@ -22,6 +22,7 @@ use Rattle.law.specs.Printing.{printedCount, printedInteger}
 use Rattle.number_print.proofs.PrintLaws.{wrote-length, wrote-more}
 use Rattle.law.specs.Kinds.{sectionOf, roleOf}
 use Rattle.form_words.specs.Padded.{trimmed, noKeyword, nameRow, closingRow, wordRow}
+use Rattle.write_texts.proofs.WordLaws.{some-byte, trimmed-short}
 use Rattle.law.specs.Values.{number}
 use Rattle.law.specs.Fits.{isEmpty, largest, within, fits}
 use Rattle.law.proofs.LargestLaws.{largest-most}
@@ -108,25 +109,11 @@ module _ (n : ℕ) where
   unfolding noKeyword
   name-none s a b = rw (ne-eqb n 0 a, ne-eqb n 9 b)
 
-trimmed-short : (s : List ℕ) → length (trimmed s) ≤ length s
-unfolding trimmed
-trimmed-short [] = omega arith
-trimmed-short (b ∷ s) = go (eqb b 32) (trimmed-short s)
-  where
-    go : (t : Bool) → length (trimmed s) ≤ length s → length (cond t [] (b ∷ trimmed s)) ≤ suc (length s)
-    go true h = omega arith
-    go false h = omega arith
-
 -- what stands before fields
 empty-none : (s : List ℕ) → length s ≡ 0 → isEmpty s ≡ true
 unfolding isEmpty
 empty-none [] h = refl
 empty-none (b ∷ s) h = absurd (omega arith)
-
-empty-some : (s : List ℕ) → (length s ≡ 0 → ⊥) → isEmpty s ≡ false
-unfolding isEmpty
-empty-some [] h = absurd (h refl)
-empty-some (b ∷ s) h = refl
 
 module _ (role s n m : ℕ) (e : m ≡ length (markOf role)) where
   front-none : m ≡ 0 → frontText role s n ≡ []
@@ -135,7 +122,7 @@ module _ (role s n m : ℕ) (e : m ≡ length (markOf role)) where
 
   front-some : (m ≡ 0 → ⊥) → frontText role s n ≡ markOf role ++ (trimmed (nameAt role s) ++ behindOf n ∷ [])
   unfolding frontText
-  front-some h = rw (empty-some (markOf role) (λ z. h (e ∙ z)))
+  front-some h = rw (some-byte (markOf role) (λ z. h (e ∙ z)))
 
   front-length : (m ≡ 0 → ⊥) → length (frontText role s n) ≡ length (markOf role) + length (trimmed (nameAt role s)) + 1
   front-length h = omega (arith, ap length (front-some h), length-append (markOf role) (trimmed (nameAt role s) ++ behindOf n ∷ []), length-append (trimmed (nameAt role s)) (behindOf n ∷ []))

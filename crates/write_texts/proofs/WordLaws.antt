@@ -52,7 +52,7 @@ unfolding needsQuotes isEmpty
 quotes-empty [] h = refl
 quotes-empty (b ∷ s) h = absurd (omega arith)
 
-some-byte : (s : List ℕ) → (length s ≡ 0 → ⊥) → isEmpty s ≡ false
+pub some-byte : (s : List ℕ) → (length s ≡ 0 → ⊥) → isEmpty s ≡ false
 unfolding isEmpty
 some-byte [] n = absurd (n refl)
 some-byte (b ∷ s) n = refl
@@ -136,7 +136,7 @@ front-trimmed (b ∷ row) = go (eqb b 32) (front-trimmed row)
     go true h = refl
     go false h = ap (λ (s : List ℕ). b ∷ s) h
 
-trimmed-short : (row : List ℕ) → length (trimmed row) ≤ length row
+pub trimmed-short : (row : List ℕ) → length (trimmed row) ≤ length row
 unfolding trimmed
 trimmed-short [] = omega arith
 trimmed-short (b ∷ row) = go (eqb b 32) (trimmed-short row)
