@@ -1,5 +1,5 @@
 -- Laws of a board gone through in parts, as the code leaves them.
-use Prim.Native.Nat.{ℕ, _+_, _-_, _/_, _%_, _^_, _≤_, _<_}
+use Prim.Native.Nat.{ℕ, _+_, _-_, _/_, _^_, _≤_, _<_}
 use mathlib.Core.Path.{_≡_, refl, sym, ap, subst, _∙_}
 use mathlib.Core.List.{List}
 use mathlib.Core.Bool.{Bool, true, false, cond, not, _||_}
@@ -10,7 +10,7 @@ use lib.Dec.{ltb, eqb}
 use lib.IntN.{ℤ}
 use Rattle.rows_texts.specs.Names.{keyOf}
 use Rattle.law.specs.declared.Verdict.{Verdict}
-use Rattle.judge_stock.specs.Stock.{isIn}
+use Rattle.judge_stock.specs.Stock.{partOf, isIn}
 use Rattle.judge.specs.declared.parts.OfPart.{OfPart}
 use Rattle.judge.specs.declared.parts.OfPart.the-variants.{Told, Divided}
 use Rattle.judge.specs.Verdicts.{placed}
@@ -34,10 +34,6 @@ module _ (m k : ℕ) where
       go true false e i = refl
       go false true e i = ap not (lt-ltb m (k + 1) (let j = ltb-true m k i in omega arith))
       go false false e i = ap not (le-ltb m (k + 1) (let h = eqb-false m k e in let j = ltb-false m k i in omega arith))
-
--- the part of a hash
-abbrev partOf : ℕ → ℕ → ℕ
-partOf h parts = h / 17_592_186_044_416 % parts
 
 part-below : (h parts : ℕ) → 2 ≤ parts → partOf h parts < parts
 part-below h parts l = mod-lt (h / 17_592_186_044_416) {m = parts} (omega arith)

@@ -1,5 +1,5 @@
 -- The placements of a board in parts, by the hash of their names; no verdict depends on the parts.
-use Prim.Native.Nat.{ℕ, _+_, _/_, _%_, _^_, _<_}
+use Prim.Native.Nat.{ℕ, _+_, _^_, _<_}
 use mathlib.Core.Path.{_≡_}
 use mathlib.Core.List.{List}
 use mathlib.Core.Bool.{Bool, true, cond, not, _&&_}
@@ -12,7 +12,7 @@ use Rattle.walk.specs.declared.Turn.{Turn}
 use Rattle.walk.specs.Walks.{Trace, done, stop, skip, row, traceOf}
 use Rattle.law.specs.declared.Verdict.{Verdict}
 use Rattle.law.specs.Answers.{verdict}
-use Rattle.judge_stock.specs.Stock.{isIn}
+use Rattle.judge_stock.specs.Stock.{partOf, isIn}
 use Rattle.judge.specs.declared.parts.OfPart.{OfPart}
 use Rattle.judge.specs.declared.parts.OfPart.the-variants.{Told, Divided}
 use Rattle.judge.specs.Entries.{lacksEntry, lacks}
@@ -23,7 +23,7 @@ asked parts part board x = isIn (keyOf board x) parts part
 
 -- a hash is in a part or in one behind it
 unfoldable pub isFrom : ℕ → ℕ → ℕ → Bool
-isFrom h parts part = cond (ltb parts 2) true (not (ltb (h / 17_592_186_044_416 % parts) part))
+isFrom h parts part = cond (ltb parts 2) true (not (ltb (partOf h parts) part))
 
 -- so is a placement's name
 unfoldable pub askedFrom : ℕ → ℕ → List ℕ → List ℤ → Bool

@@ -58,9 +58,13 @@ showsBy board library h mechanical x e = eqb (e % 128) (tagOf h) && holdsName bo
 abbrev pub showsName : List ℕ → List ℕ → Bool → List ℤ → ℕ → Bool
 showsName board library mechanical x e = showsBy board library (keyOf board x) mechanical x e
 
--- a hash is in a part, of so many; in one part there are all
+-- the part of a hash, of so many
+abbrev pub partOf : ℕ → ℕ → ℕ
+partOf h parts = h / 17_592_186_044_416 % parts
+
+-- a hash is in a part; in one part there are all
 unfoldable pub isIn : ℕ → ℕ → ℕ → Bool
-isIn h parts part = cond (ltb parts 2) true (eqb (h / 17_592_186_044_416 % parts) part)
+isIn h parts part = cond (ltb parts 2) true (eqb (partOf h parts) part)
 
 -- a row's names under their hash, if that is in the part
 unfoldable pub putName : ℕ → ℕ → List ℕ → List ℕ → Bool → List ℤ → List ℕ

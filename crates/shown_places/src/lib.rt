@@ -1,1 +1,1 @@
-// Where the fields of a line stand in a file, and the row of a record by its line: definitions and theorems, no code.
+// That the starts in rows, and what the line reader hands out, are the places that the law gives the fields: theorems, no code.

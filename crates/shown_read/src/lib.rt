@@ -1,1 +1,1 @@
-// How whole files are made of records, and that reading their lines is exact: definitions and theorems, no code.
+// That `check` and `read` answer what the lines of a file say, and so as the law gives it: definitions and theorems, no code.
