@@ -82,7 +82,7 @@ pub records : {file : List ℕ} {old new : List ℤ} {r : Reply} → Reads file 
     × (s : FileSays Idf3 rs file)
     × (r ≡ reply 0 0 (length rs))
     × RowsMean file rs (take (width * length rs) new)
-    × RowsAt (under Idf3 (titled rs)) 0 (s .lines) rs (take (width * length rs) new)
+    × RowsAt (under Idf3 (titled rs)) file 0 (s .lines) rs (take (width * length rs) new)
     × (drop (width * length rs) new ≡ drop (width * length rs) old)
 records {file} {old} o z =
     let w = read-list file (length old) (sym (ap numberIn (o .answer)) ∙ z) in

@@ -33,18 +33,18 @@ module _ {file : List ℕ} {old new : List ℤ} {r : Reply} (o : Reads file old 
       ap (take (width * length rs)) (o .left) ∙ texts.read-front file s (w .0) old (subst (λ (k : List Rec). length k ≤ length old / width) e (w .1 .2))
 
   -- what it leaves are the rows of the lines, in which each start is the place of the field's own first byte
-  pub starts : RowsAt (under Idf3 (titled rs)) 0 ls rs (take (width * length rs) new)
-  starts = subst (RowsAt (under Idf3 (titled rs)) 0 ls rs) (sym left) (rows-at file s m)
+  pub starts : RowsAt (under Idf3 (titled rs)) file 0 ls rs (take (width * length rs) new)
+  starts = subst (RowsAt (under Idf3 (titled rs)) file 0 ls rs) (sym left) (rows-at file s m)
 
   -- and no other numbers are
-  pub starts-iff : (xs : List ℤ) → RowsAt (under Idf3 (titled rs)) 0 ls rs xs ↔ (xs ≡ take (width * length rs) new)
-  starts-iff xs = (λ p. one.rows-one p starts, λ e. subst (RowsAt (under Idf3 (titled rs)) 0 ls rs) (sym e) starts)
+  pub starts-iff : (xs : List ℤ) → RowsAt (under Idf3 (titled rs)) file 0 ls rs xs ↔ (xs ≡ take (width * length rs) new)
+  starts-iff xs = (λ p. one.rows-one p starts, λ e. subst (RowsAt (under Idf3 (titled rs)) file 0 ls rs) (sym e) starts)
 
 -- the row of one line, of those that are no comment and not blank
 pub starts-line : {file : List ℕ} {old new : List ℤ} {r : Reply} → Reads file old r new → r .number ≡ 0 → (us : List (List ℕ)) (l : List ℕ) (ms : List (List ℕ)) → File (us ++ (l ∷ ms)) file
-    → {rs : List Rec} → FileSays Idf3 rs file → (Free l → ⊥) → LineRow (under Idf3 (titled rs)) (startAfter us) l rs (take (width * length rs) new)
+    → {rs : List Rec} → FileSays Idf3 rs file → (Free l → ⊥) → LineRow (under Idf3 (titled rs)) (startAfter file 0 us) l rs (take (width * length rs) new)
 starts-line o z us l ms m s h = places.line-row us l ms h (starts o z m s)
 
 -- rows by their places mean their list: the places say no less than `RowsMean`
-pub starts-mean : {t : FileType} {file : List ℕ} {ls : List (List ℕ)} {rs : List Rec} {xs : List ℤ} → File ls file → RowsAt (under Idf3 t) 0 ls rs xs → RowsMean file rs xs
+pub starts-mean : {t : FileType} {file : List ℕ} {ls : List (List ℕ)} {rs : List Rec} {xs : List ℤ} → File ls file → RowsAt (under Idf3 t) file 0 ls rs xs → RowsMean file rs xs
 starts-mean m p = rows-meant m p

@@ -79,7 +79,7 @@ module _ {file : List ℕ} {at n : ℕ} where
 
   -- behind the lines us, of which it handed out each, it stands at the first byte of the next and has its number
   pub called : (us : List (List ℕ)) (line : List ℕ) (more : List (List ℕ)) → File (us ++ (line ∷ more)) file → Called file (length us) at n
-      → (at ≡ startAfter us) × (n ≡ length us + 1)
+      → (at ≡ startAfter file 0 us) × (n ≡ length us + 1)
   called us line more m c = readers.called-at us line more m c
 
   -- behind all lines it stands at the end of the file
@@ -96,8 +96,8 @@ module _ {file : List ℕ} {at n : ℕ} where
 
     -- a call that answers 0 leaves start and length of each field of the line, and the rest as it was
     pub fields-of-line : (us : List (List ℕ)) (line : List ℕ) (more : List (List ℕ)) → File (us ++ (line ∷ more)) file → Called file (length us) at n → s .reply .number ≡ 0
-        → (ps : List Spot) × Handed (startAfter us) line ps × (s .reply ≡ reply 0 0 (length ps)) × (new ≡ over (numbersOf ps) old)
-    fields-of-line us line more m c z = let e = called us line more m c .0 in rw (sym e) (zero-shows (every-call .0 o) z (rw (sym e) at (rest-made us line more m)))
+        → (ps : List Spot) × Handed (startAfter file 0 us) line ps × (s .reply ≡ reply 0 0 (length ps)) × (new ≡ over (numbersOf ps) old)
+    fields-of-line us line more m c z = let e = called us line more m c .0 in rw (sym e) (zero-shows (every-call .0 o) z (rw (sym e) at (rest-made us line more file 0 m)))
 
 -- on every answer but 0 the slice is as it was
 pub view-untouched : {file : List ℕ} {at n : ℕ} {old new : List ℤ} {s : Step} → Shows file at n old s new → (s .reply .number ≡ 0 → ⊥) → new ≡ old

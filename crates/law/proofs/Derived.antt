@@ -46,7 +46,7 @@ use Rattle.law.proofs.Samples.{of, said, count, pointAt, title, heading
 
 -- lines: byte 10 ends each, and the last may lack it
 pub two-lines : lines.File (ascii "a" ∷ ascii "b" ∷ []) (97 ∷ 10 ∷ 98 ∷ [])
-two-lines = lines.next (by.one refl by.none) (lines.last (by.one refl by.none))
+two-lines = lines.next (by.one refl by.none) lines.by-10 (lines.last (by.one refl by.none))
 
 -- numbers: the hundred-thousandth keeps its sign, and a sixth decimal may be 0
 

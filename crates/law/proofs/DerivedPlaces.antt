@@ -71,7 +71,11 @@ its-row b =
     }
 
 -- two such lines: the second begins at 9, behind the byte 10 of the first
-pub two-properties : RowsAt (under Idf3 Library) 0 (property ∷ property ∷ []) (its ∷ its ∷ []) (rowFrom 5 7 ++ (rowFrom 14 16 ++ []))
+abbrev twice : List ℕ
+twice = property ++ (10 ∷ (property ++ (10 ∷ [])))
+
+pub two-properties : RowsAt (under Idf3 Library) twice 0 (property ∷ property ∷ []) (its ∷ its ∷ []) (rowFrom 5 7 ++ (rowFrom 14 16 ++ []))
+unfolding lines.endBytes
 two-properties = rows.line spells-property (its-row 0) (rows.line spells-property (its-row 9) rows.end)
 
 -- The line reader, over a comment, a tab, a quote, and two fields, with a slice of two numbers; then with one of five
@@ -87,16 +91,16 @@ two-fields = next (one-byte 97 refl) (space (last (one-byte 98 refl)))
 
 -- the lines from each place on
 fourth-on : lines.File ((97 ∷ 32 ∷ 98 ∷ []) ∷ []) (97 ∷ 32 ∷ 98 ∷ 10 ∷ [])
-fourth-on = lines.next (by.one refl (by.one refl (by.one refl by.none))) lines.none
+fourth-on = lines.next (by.one refl (by.one refl (by.one refl by.none))) lines.by-10 lines.none
 
 third-on : lines.File ((34 ∷ []) ∷ (97 ∷ 32 ∷ 98 ∷ []) ∷ []) (34 ∷ 10 ∷ 97 ∷ 32 ∷ 98 ∷ 10 ∷ [])
-third-on = lines.next (by.one refl by.none) fourth-on
+third-on = lines.next (by.one refl by.none) lines.by-10 fourth-on
 
 second-on : lines.File ((9 ∷ []) ∷ (34 ∷ []) ∷ (97 ∷ 32 ∷ 98 ∷ []) ∷ []) (9 ∷ 10 ∷ 34 ∷ 10 ∷ 97 ∷ 32 ∷ 98 ∷ 10 ∷ [])
-second-on = lines.next (by.one refl by.none) third-on
+second-on = lines.next (by.one refl by.none) lines.by-10 third-on
 
 first-on : lines.File ((35 ∷ 120 ∷ []) ∷ (9 ∷ []) ∷ (34 ∷ []) ∷ (97 ∷ 32 ∷ 98 ∷ []) ∷ []) four-lines
-first-on = lines.next (by.one refl (by.one refl by.none)) second-on
+first-on = lines.next (by.one refl (by.one refl by.none)) lines.by-10 second-on
 
 tab-barred : All permitted (9 ∷ []) → ⊥
 unfolding permitted
@@ -118,15 +122,15 @@ no-quote (rules.next {s = s} {t = t} p r) e = omega (arith, ap length e, length-
 
 -- 0 for the comment, 3 for the tab, 4 for the quote, and 2 where four numbers are needed
 pub first-call : Shown four-lines 0 1 sevens (reply 0 0 0) 3 2 sevens
-unfolding numbersOf begins
+unfolding numbersOf begins lines.endBytes
 first-call = whole (omega arith) first-on (comment refl) (omega arith)
 
 pub second-call : Shown four-lines 3 2 sevens (reply 3 2 0) 5 3 sevens
-unfolding begins
+unfolding begins lines.endBytes
 second-call = not-permitted (omega arith) second-on refl tab-barred
 
 pub third-call : Shown four-lines 5 3 sevens (reply 4 3 0) 7 4 sevens
-unfolding begins permitted
+unfolding begins permitted lines.endBytes
 third-call = no-fields (omega arith) third-on refl (by.one refl by.none) (λ fs p. no-quote p refl)
 
 pub fourth-call : Shown four-lines 7 4 sevens (reply 2 0 2) 7 4 sevens
@@ -134,7 +138,7 @@ unfolding begins permitted
 fourth-call = too-short (omega arith) fourth-on (fields refl (by.one refl (by.one refl (by.one refl by.none))) two-fields) (omega arith)
 
 pub fifth-call : Shown four-lines 7 4 (pos 7 ∷ pos 7 ∷ pos 7 ∷ sevens) (reply 0 0 2) 11 5 (pos 7 ∷ pos 1 ∷ pos 9 ∷ pos 1 ∷ pos 7 ∷ [])
-unfolding begins permitted numbersOf
+unfolding begins permitted numbersOf lines.endBytes
 fifth-call = whole (omega arith) fourth-on (fields refl (by.one refl (by.one refl (by.one refl by.none))) two-fields) (omega arith)
 
 pub sixth-call : Shown four-lines 11 5 sevens (reply 13 5 0) 11 5 sevens

@@ -5,7 +5,7 @@ use mathlib.Core.Path.{_≡_}
 use mathlib.Core.List.{List, [], _∷_, _++_}
 use lib.IntN.{ℤ, pos}
 use lib.ListN.{length, replicate}
-use Rattle.law.specs.Lines.{Free}
+use Rattle.law.specs.Lines.{placeBehind, Free}
 use Rattle.law.specs.Values.{Value, number, word, text, Rec}
 use Rattle.law.specs.declared.Context.{Context}
 use Rattle.law.specs.Rows.{width}
@@ -35,18 +35,18 @@ pub record RowOf (b : ℕ) (l : List ℕ) (r : Rec) (row : List ℤ) : Type 0 wh
   pub is : row ≡ pos (r .kind) ∷ (columnsOfAll (r .values) own ++ replicate left (pos 0))
   pub ten : length row ≡ width
 
--- the rows of lines that spell these records, the first of which begins at b: a free line has none, and every other has its record's.
--- A line is followed by byte 10 before the next begins
-pub data RowsAt (c : Context) : ℕ → List (List ℕ) → List Rec → List ℤ → Type 0 where
-  end : {b : ℕ} → RowsAt c b [] [] []
-  free : {b : ℕ} {l : List ℕ} {ls : List (List ℕ)} {rs : List Rec} {xs : List ℤ} → Free l → RowsAt c (b + length l + 1) ls rs xs → RowsAt c b (l ∷ ls) rs xs
+-- the rows of lines of a file that spell these records, the first of which begins at b: a free line has none, and every other has its record's
+pub data RowsAt (c : Context) (file : List ℕ) : ℕ → List (List ℕ) → List Rec → List ℤ → Type 0 where
+  end : {b : ℕ} → RowsAt c file b [] [] []
+  free : {b : ℕ} {l : List ℕ} {ls : List (List ℕ)} {rs : List Rec} {xs : List ℤ} → Free l → RowsAt c file (placeBehind file b l) ls rs xs
+      → RowsAt c file b (l ∷ ls) rs xs
   line : {b : ℕ} {l : List ℕ} {ls : List (List ℕ)} {r : Rec} {rs : List Rec} {x xs : List ℤ}
-      → SpellsRecord c r l → RowOf b l r x → RowsAt c (b + length l + 1) ls rs xs → RowsAt c b (l ∷ ls) (r ∷ rs) (x ++ xs)
+      → SpellsRecord c r l → RowOf b l r x → RowsAt c file (placeBehind file b l) ls rs xs → RowsAt c file b (l ∷ ls) (r ∷ rs) (x ++ xs)
 
--- the first byte of the line that stands behind these lines, of which each has byte 10 behind it
-unfoldable pub startAfter : List (List ℕ) → ℕ
-startAfter [] = 0
-startAfter (l ∷ ls) = length l + 1 + startAfter ls
+-- the first byte of the line that stands behind these lines of a file, the first of which begins at b
+unfoldable pub startAfter : List ℕ → ℕ → List (List ℕ) → ℕ
+startAfter file b [] = b
+startAfter file b (l ∷ ls) = startAfter file (placeBehind file b l) ls
 
 -- the row of the line l, which begins at b: it is that of the record which l spells, and stands behind the rows of the records before it
 pub record LineRow (c : Context) (b : ℕ) (l : List ℕ) (rs : List Rec) (xs : List ℤ) : Type 0 where

@@ -9,7 +9,7 @@ use lib.Dec.{ltb}
 use lib.IntN.{ℤ}
 use lib.ListN.{length, drop}
 use Rattle.law.specs.Bytes.{permitted, begins, All}
-use Rattle.law.specs.Lines.{File}
+use Rattle.law.specs.Lines.{File, placeBehind}
 use Rattle.law.specs.Fields.{Field, Spelled}
 use Rattle.law.specs.Answers.{limit, reply, over}
 use Rattle.law.specs.declared.Reply.{Reply}
@@ -19,10 +19,6 @@ use Rattle.law.specs.FieldPlaces.{Spot, SpelledAt, numbersOf}
 pub data Handed (b : ℕ) (line : List ℕ) : List Spot → Type 0 where
   comment : begins 35 line ≡ true → Handed b line []
   fields : {ps : List Spot} → begins 35 line ≡ false → All permitted line → SpelledAt b ps line → Handed b line ps
-
--- the place behind a line that begins at b: behind its byte 10, or the end of the file
-abbrev pub placeBehind : List ℕ → ℕ → List ℕ → ℕ
-placeBehind file b line = cond (ltb (b + length line) (length file)) (b + length line + 1) (b + length line)
 
 -- the number behind a line's; the largest of 64 bits stays, and no line has it
 abbrev pub numberBehind : ℕ → ℕ

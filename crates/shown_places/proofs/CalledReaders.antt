@@ -1,59 +1,30 @@
 -- A reader that was opened and called stands behind the lines that it handed out, and has the number of the next.
 use Prim.Native.Nat.{ℕ, suc, _+_, _≤_}
-use mathlib.Core.Path.{_≡_, refl, sym, ap, subst, _∙_}
+use mathlib.Core.Path.{_≡_, refl, sym, ap, _∙_}
 use mathlib.Core.List.{List, [], _∷_, _++_, append-assoc}
 use mathlib.Core.Bool.{true, false≢true}
 use native.Mathlib.Omega.{arith}
-use borrow.Author.Tests.{lt-ltb, le-ltb}
-use lib.ListN.{length, drop, length-append, length-drop}
-use lib.Seq.{drop-drop}
-use Rattle.basics.proofs.Lists.{at-end}
-use Rattle.law.specs.Lines.{File, none, last, next}
+use borrow.Author.Tests.{lt-ltb}
+use lib.ListN.{length, drop, length-append}
+use Rattle.law.specs.Lines.{File, none, last, next, placeBehind}
 use Rattle.law.specs.Answers.{limit}
-use Rattle.text.proofs.LineSpelling.{lines-unique}
+use Rattle.text.proofs.LineSpelling.{end-some, lines-unique}
 use Rattle.viewer.specs.Views.{movesOn}
 use Rattle.law.specs.RowPlaces.{startAfter}
-use Rattle.law.specs.Viewing.{placeBehind, numberBehind, too-large, no-line, not-permitted, no-fields, too-short, whole, MovesOn, after-0, after-3, after-4, Called, opened, moved, stayed}
+use Rattle.law.specs.Viewing.{numberBehind, too-large, no-line, not-permitted, no-fields, too-short, whole, MovesOn, after-0, after-3, after-4, Called, opened, moved, stayed}
 use Rattle.shown_places.proofs.ReaderPlaces.{none-long}
-use Rattle.shown_places.proofs.LinePlaces.{drop-line}
-
--- The place behind a line
-
-record Behind (file : List ℕ) (at : ℕ) (line : List ℕ) (more : List (List ℕ)) : Type 0 where
-  rest : File more (drop (placeBehind file at line) file)
-  on : (l : List ℕ) (ms : List (List ℕ)) → more ≡ l ∷ ms → placeBehind file at line ≡ at + length line + 1
-  out : more ≡ [] → placeBehind file at line ≡ length file
-
-behind : (file : List ℕ) (at : ℕ) {line s : List ℕ} {more : List (List ℕ)} → drop at file ≡ s → File (line ∷ more) s → Behind file at line more
-behind file at e (last {b = b} {l = l} a) =
-    let n : length file ≡ at + length (b ∷ l) = omega (arith, ap length e, length-drop at file) in
-    let q = le-ltb (at + length (b ∷ l)) (length file) (omega (arith, n)) in
-    record {
-      rest = rw q (rw (at-end file (at + length (b ∷ l)) (omega (arith, n))) none);
-      on = λ k ms c. let z : _≡_ {A = ℕ} 0 1 = cc in absurd (omega arith);
-      out = λ c. rw q (sym n);
-    }
-behind file at e (next {l = l} {ls = ls} {s = t} a f) =
-    let n : length file ≡ at + (length l + suc (length t)) = omega (arith, ap length e, length-drop at file, length-append l (10 ∷ t)) in
-    let q = lt-ltb (at + length l) (length file) (omega (arith, n)) in
-    let z : at + (length l + 1 + 0) ≡ at + length l + 1 = omega arith in
-    let d : t ≡ drop (at + length l + 1) file = drop-line l t 0 ∙ ap (drop (length l + 1 + 0)) (sym e) ∙ drop-drop (length l + 1 + 0) at file ∙ ap (λ (i : ℕ). drop i file) z in
-    record {
-      rest = rw q (subst (File ls) d f);
-      on = λ k ms c. rw q;
-      out = λ c. rw q (omega (arith, n, none-long c f));
-    }
+use Rattle.shown_places.proofs.LinePlaces.{behind}
 
 -- no more lines than bytes
 lines-fewer : {ls : List (List ℕ)} {s : List ℕ} → File ls s → length ls ≤ length s
 lines-fewer none = omega arith
 lines-fewer (last a) = omega arith
-lines-fewer (next {l = l} {s = s} a f) = omega (arith, lines-fewer f, length-append l (10 ∷ s))
+lines-fewer (next {l = l} {e = e} {s = s} a k f) = omega (arith, lines-fewer f, length-append l (e ++ s), length-append e s, end-some k)
 
-start-more : (us : List (List ℕ)) (l : List ℕ) → startAfter (us ++ (l ∷ [])) ≡ startAfter us + length l + 1
+start-more : (file : List ℕ) (b : ℕ) (us : List (List ℕ)) (l : List ℕ) → startAfter file b (us ++ (l ∷ [])) ≡ placeBehind file (startAfter file b us) l
 unfolding startAfter
-start-more [] l = omega arith
-start-more (u ∷ us) l = omega (arith, start-more us l)
+start-more file b [] l = refl
+start-more file b (u ∷ us) l = start-more file (placeBehind file b u) us l
 
 moves-true : {k : ℕ} → MovesOn k → movesOn k ≡ true
 moves-true after-0 = refl
@@ -68,20 +39,19 @@ module _ {file : List ℕ} {ls : List (List ℕ)} (made : File ls file) where
     are : ls ≡ us ++ more
     many : length us ≡ k
     rest : File more (drop at file)
-    place : (l : List ℕ) (ms : List (List ℕ)) → more ≡ l ∷ ms → at ≡ startAfter us
+    place : at ≡ startAfter file 0 us
     out : more ≡ [] → at ≡ length file
     number : n ≡ k + 1
 
   stands-first : Stands 0 0 1
   unfolding startAfter
-  stands-first = record { us = []; more = ls; are = refl; many = refl; rest = made; place = λ l ms e. refl; out = λ e. sym (none-long e made); number = refl }
+  stands-first = record { us = []; more = ls; are = refl; many = refl; rest = made; place = refl; out = λ e. sym (none-long e made); number = refl }
 
   stands-next : {k at n : ℕ} {line : List ℕ} {more : List (List ℕ)} → Stands k at n → length file ≤ limit → File (line ∷ more) (drop at file)
       → Stands (suc k) (placeBehind file at line) (numberBehind n)
   stands-next {k} {at} {n} {line} {more} s h f =
       let e : s .more ≡ line ∷ more = lines-unique (s .rest) f in
       let b = behind file at refl f in
-      let p : at ≡ startAfter (s .us) = s .place line more e in
       let a : ls ≡ s .us ++ (line ∷ more) = s .are ∙ ap (λ (x : List (List ℕ)). s .us ++ x) e in
       let c : length ls ≡ k + suc (length more) = omega (arith, ap length a, length-append (s .us) (line ∷ more), s .many) in
       let q = lt-ltb n 18_446_744_073_709_551_615 (omega (arith, c, s .number, lines-fewer made, h)) in
@@ -91,7 +61,7 @@ module _ {file : List ℕ} {ls : List (List ℕ)} (made : File ls file) where
         are = a ∙ sym (append-assoc (s .us) (line ∷ []) more);
         many = omega (arith, length-append (s .us) (line ∷ []), s .many);
         rest = b .rest;
-        place = λ l ms z. b .on l ms z ∙ omega (arith, p, start-more (s .us) line);
+        place = ap (λ (i : ℕ). placeBehind file i line) (s .place) ∙ sym (start-more file 0 (s .us) line);
         out = b .out;
         number = rw q (omega (arith, s .number));
       }
@@ -124,11 +94,11 @@ fronts-one (u ∷ us) (v ∷ vs) xs ys h e =
 
 -- a reader that handed out the lines us stands at the first byte of the next
 pub called-at : {file : List ℕ} {at n : ℕ} (us : List (List ℕ)) (line : List ℕ) (more : List (List ℕ)) → File (us ++ (line ∷ more)) file → Called file (length us) at n
-    → (at ≡ startAfter us) × (n ≡ length us + 1)
-called-at us line more m c =
+    → (at ≡ startAfter file 0 us) × (n ≡ length us + 1)
+called-at {file} us line more m c =
     let s = stands m c in
     let w = fronts-one us (s .us) (line ∷ more) (s .more) (sym (s .many)) (s .are) in
-    (s .place line more (sym (w .1)) ∙ ap startAfter (sym (w .0)), s .number)
+    (s .place ∙ ap (startAfter file 0) (sym (w .0)), s .number)
 
 -- one that handed out all lines, at the end of the file
 pub called-out : {file : List ℕ} {at n : ℕ} {ls : List (List ℕ)} → File ls file → Called file (length ls) at n → (at ≡ length file) × (n ≡ length ls + 1)

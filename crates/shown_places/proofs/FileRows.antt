@@ -4,17 +4,16 @@ use mathlib.Core.Path.{_≡_, refl, sym, ap, subst, _∙_}
 use mathlib.Core.List.{List, [], _∷_, _++_}
 use mathlib.Core.Bool.{Bool, true, false, cond}
 use native.Mathlib.Omega.{arith}
-use native.Mathlib.Nat.{add-zero}
 use borrow.Author.Tests.{ltb-true, ltb-false}
 use lib.Dec.{ltb}
 use lib.IntN.{ℤ}
 use lib.ListN.{length, take, drop, length-drop}
-use lib.Seq.{drop-drop, length-take-le}
-use Rattle.text.specs.Lines.{endLen, contentLen, lineEnd, linesOf}
-use Rattle.law.specs.Lines.{File, Free}
+use lib.Seq.{drop-drop}
+use Rattle.text.specs.Lines.{lineEnd, linesOf}
+use Rattle.law.specs.Lines.{File, placeBehind, Free}
 use Rattle.basics.proofs.Lists.{at-end}
-use Rattle.text.proofs.LineLaws.{content-le, line-inside, lines-none, lines-first}
-use Rattle.text.proofs.LineSpelling.{content-after, lines-complete, lines-unique}
+use Rattle.text.proofs.LineLaws.{line-inside, lines-none, lines-first}
+use Rattle.text.proofs.LineSpelling.{place-behind, lines-complete, lines-unique}
 use Rattle.law.specs.Values.{Rec}
 use Rattle.law.specs.Fits.{under}
 use Rattle.law.specs.declared.Context.{Context}
@@ -42,75 +41,47 @@ use Rattle.law.specs.RowPlaces.{RowOf, RowsAt}
 use Rattle.shown_places.proofs.LineRows.{Rowed, line-rowed}
 
 -- as `RowsAt`, of lines of which it is known only that they are not free
-data RowsIn : ℕ → List (List ℕ) → List Rec → List ℤ → Type 0 where
-  end : {b : ℕ} → RowsIn b [] [] []
-  free : {b : ℕ} {l : List ℕ} {ls : List (List ℕ)} {rs : List Rec} {xs : List ℤ} → Free l → RowsIn (b + length l + 1) ls rs xs → RowsIn b (l ∷ ls) rs xs
+data RowsIn (file : List ℕ) : ℕ → List (List ℕ) → List Rec → List ℤ → Type 0 where
+  end : {b : ℕ} → RowsIn file b [] [] []
+  free : {b : ℕ} {l : List ℕ} {ls : List (List ℕ)} {rs : List Rec} {xs : List ℤ} → Free l → RowsIn file (placeBehind file b l) ls rs xs → RowsIn file b (l ∷ ls) rs xs
   line : {b : ℕ} {l : List ℕ} {ls : List (List ℕ)} {r : Rec} {rs : List Rec} {x xs : List ℤ}
-      → (Free l → ⊥) → RowOf b l r x → RowsIn (b + length l + 1) ls rs xs → RowsIn b (l ∷ ls) (r ∷ rs) (x ++ xs)
-
--- with the records that they spell
-spelled-rows : {c : Context} {w : Where} {b : ℕ} {ls : List (List ℕ)} {rs : List Rec} {xs : List ℤ} → SpellsLines c w rs ls → RowsIn b ls rs xs → RowsAt c b ls rs xs
-spelled-rows spell.end end = rows.end
-spelled-rows (spell.free f p) (free g q) = rows.free f (spelled-rows p q)
-spelled-rows (spell.free f p) (line h x q) = absurd (h f)
-spelled-rows (spell.line s p) (free g q) = absurd (record-not-free s g)
-spelled-rows (spell.line s p) (line h x q) = rows.line s x (spelled-rows p q)
-
--- what an answer says of rows
-abbrev ToldAt : ℕ → List (List ℕ) → List ℤ → Told → Type 0
-ToldAt b ls xs (ended rs st) = RowsIn b ls rs xs
-ToldAt b ls xs (broken k n) = Unit {0}
-
--- no lines, no place
-none-at : {b : ℕ} {rs : List Rec} {xs : List ℤ} (d : ℕ) (ls : List (List ℕ)) → ls ≡ [] → RowsIn b ls rs xs → RowsIn d ls rs xs
-none-at d ls e end = end
-none-at d ls e (free h r) = let z : _≡_ {A = ℕ} 0 1 = cc in absurd (omega arith)
-none-at d ls e (line h p r) = let z : _≡_ {A = ℕ} 0 1 = cc in absurd (omega arith)
-
--- the next line begins one byte behind a line's content, if there is one
-next-at : (s : List ℕ) (b : ℕ) {rs : List Rec} {xs : List ℤ} → RowsIn (b + lineEnd s .next) (linesOf (drop (lineEnd s .next) s)) rs xs
-    → RowsIn (b + length (take (lineEnd s .content) s) + 1) (linesOf (drop (lineEnd s .next) s)) rs xs
-unfolding lineEnd endLen
-next-at s b {rs} {xs} r = go (drop (contentLen s) s) refl r
-  where
-    go : (u : List ℕ) → drop (contentLen s) s ≡ u → RowsIn (b + (contentLen s + endLen u)) (linesOf (drop (contentLen s + endLen u) s)) rs xs
-        → RowsIn (b + length (take (contentLen s) s) + 1) (linesOf (drop (contentLen s + endLen u) s)) rs xs
-    go [] e r =
-        let z : drop (contentLen s + 0) s ≡ [] = ap (λ (i : ℕ). drop i s) (add-zero (contentLen s)) ∙ e in
-        none-at _ _ (rw z lines-none) r
-    go (c ∷ t) e r =
-        let f : c ≡ 10 = content-after s c t e in
-        let l = length-take-le (contentLen s) s (content-le s) in
-        let i : b + (contentLen s + 1) ≡ b + length (take (contentLen s) s) + 1 = omega (arith, l) in
-        rw f (subst (λ (m : ℕ). RowsIn m (linesOf (drop (contentLen s + 1) s)) rs xs) i (rw f at r))
-
-told-next : (s : List ℕ) (b : ℕ) (xs : List ℤ) (y : Told) → ToldAt (b + lineEnd s .next) (linesOf (drop (lineEnd s .next) s)) xs y
-    → ToldAt (b + length (take (lineEnd s .content) s) + 1) (linesOf (drop (lineEnd s .next) s)) xs y
-told-next s b xs (ended rs st) r = next-at s b r
-told-next s b xs (broken k n) r = tt
+      → (Free l → ⊥) → RowOf b l r x → RowsIn file (placeBehind file b l) ls rs xs → RowsIn file b (l ∷ ls) (r ∷ rs) (x ++ xs)
 
 module _ (file : List ℕ) where
+  -- with the records that they spell
+  spelled-rows : {c : Context} {w : Where} {b : ℕ} {ls : List (List ℕ)} {rs : List Rec} {xs : List ℤ} → SpellsLines c w rs ls → RowsIn file b ls rs xs → RowsAt c file b ls rs xs
+  spelled-rows spell.end end = rows.end
+  spelled-rows (spell.free f p) (free g q) = rows.free f (spelled-rows p q)
+  spelled-rows (spell.free f p) (line h x q) = absurd (h f)
+  spelled-rows (spell.line s p) (free g q) = absurd (record-not-free s g)
+  spelled-rows (spell.line s p) (line h x q) = rows.line s x (spelled-rows p q)
+
+  -- what an answer says of rows
+  abbrev ToldAt : ℕ → List (List ℕ) → List ℤ → Told → Type 0
+  ToldAt b ls xs (ended rs st) = RowsIn file b ls rs xs
+  ToldAt b ls xs (broken k n) = Unit {0}
+
   -- one line in front of others
   one : (st : State) (l : List ℕ) (ls : List (List ℕ)) (used : List Named) (b k : ℕ) (j : JudgedLine) (t : Trace) (x : Said) → lineSays Idf3 [] st l ≡ x → Joined Idf3 file st x j → Rowed b l x j
-      → ((us : List Named) → ToldAt (b + length l + 1) ls (rowsIn t) (toldFrom Idf3 us (j .state) ls))
+      → ((us : List Named) → ToldAt (placeBehind file b l) ls (rowsIn t) (toldFrom Idf3 us (j .state) ls))
       → ToldAt b (l ∷ ls) (rowsIn (traceBy (j .found) k (j .row) t)) (toldFrom Idf3 used st (l ∷ ls))
   unfolding toldFrom rowsIn
   one st l ls used b k j t nothing e p q ih =
-      rw (p .found, line-used Idf3 used st l, e) (go (toldFrom Idf3 used st ls) (subst (λ (u : State). ToldAt (b + length l + 1) ls (rowsIn t) (toldFrom Idf3 used u ls)) (p .state) (ih used)))
+      rw (p .found, line-used Idf3 used st l, e) (go (toldFrom Idf3 used st ls) (subst (λ (u : State). ToldAt (placeBehind file b l) ls (rowsIn t) (toldFrom Idf3 used u ls)) (p .state) (ih used)))
     where
-      go : (y : Told) → ToldAt (b + length l + 1) ls (rowsIn t) y → ToldAt b (l ∷ ls) (rowsIn t) (afterNothing y)
+      go : (y : Told) → ToldAt (placeBehind file b l) ls (rowsIn t) y → ToldAt b (l ∷ ls) (rowsIn t) (afterNothing y)
       go (ended rs en) m = free (line-nothing Idf3 [] st l e .2) m
       go (broken i n) m = tt
   one st l ls used b k j t (says r u) e p q ih =
       rw (p .found, line-used Idf3 used st l, e) (by (repeats Idf3 used r))
     where
-      go : (y : Told) → ToldAt (b + length l + 1) ls (rowsIn t) y → ToldAt b (l ∷ ls) (j .row ++ rowsIn t) (afterRecord r y)
+      go : (y : Told) → ToldAt (placeBehind file b l) ls (rowsIn t) y → ToldAt b (l ∷ ls) (j .row ++ rowsIn t) (afterRecord r y)
       go (ended rs en) m = line (record-not-free (line-sound Idf3 [] st l r u e .0)) (q (p .found)) m
       go (broken i n) m = tt
 
       by : (c : Bool) → ToldAt b (l ∷ ls) (j .row ++ rowsIn t) (goOn (cond c (wrong 12) (says r u)) (toldFrom Idf3 used st ls) (λ q w. toldFrom Idf3 (noted Idf3 used q) w ls))
       by true = tt
-      by false = go (toldFrom Idf3 (noted Idf3 used r) u ls) (subst (λ (w : State). ToldAt (b + length l + 1) ls (rowsIn t) (toldFrom Idf3 (noted Idf3 used r) w ls)) (p .state) (ih (noted Idf3 used r)))
+      by false = go (toldFrom Idf3 (noted Idf3 used r) u ls) (subst (λ (w : State). ToldAt (placeBehind file b l) ls (rowsIn t) (toldFrom Idf3 (noted Idf3 used r) w ls)) (p .state) (ih (noted Idf3 used r)))
   one st l ls used b k j t (wrong n) e p q ih = rw (line-used Idf3 used st l, e) tt
 
   abbrev AtWalk : Walk → List Named → Type 0
@@ -133,12 +104,13 @@ module _ (file : List ℕ) where
       let b : lineEnd s .next ≤ length s = i .within in
       let g : drop (w .at + lineEnd s .next) file ≡ drop (lineEnd s .next) s = sym (drop-drop (lineEnd s .next) (w .at) file) in
       let e : linesOf s ≡ l ∷ linesOf (drop (lineEnd s .next) s) = lines-first s (omega arith) in
+      let n = place-behind file (w .at) in
       let k = ih (omega arith) (omega arith) in
       rw (e, trace-step file w h)
       (one (w .state) l _ used (w .at) (w .line) (lineIn file w) _ (lineSays Idf3 [] (w .state) l) refl
       (line-joined Idf3 (w .state) file l (w .at) (part-cut file (w .at) (lineEnd s .content) (omega arith)))
       (line-rowed Idf3 (w .state) l (w .at))
-      (λ us. told-next s (w .at) (rowsIn (traceAt file (turnOf file w .walk))) (toldFrom Idf3 us (lineIn file w .state) (linesOf (drop (lineEnd s .next) s))) (rw g at (k us))))
+      (λ us. subst (λ (m : ℕ). ToldAt m (linesOf (drop (lineEnd s .next) s)) (rowsIn (traceAt file (turnOf file w .walk))) (toldFrom Idf3 us (lineIn file w .state) (linesOf (drop (lineEnd s .next) s)))) n (rw g at (k us))))
 
   rows-in : (fuel : ℕ) (w : Walk) (used : List Named) → length file ≤ w .at + fuel → w .at ≤ length file → AtWalk w used
   rows-in zero w used h i = rows-end w used (omega arith)
@@ -151,9 +123,9 @@ module _ (file : List ℕ) where
       go false e ih = rows-end w used (ltb-false (w .at) (length file) e)
 
   -- the rows of a file that says a list are those of its lines
-  pub rows-at : {rs : List Rec} {ls : List (List ℕ)} → FileSays Idf3 rs file → File ls file → RowsAt (under Idf3 (titled rs)) 0 ls rs (rowsOf file)
+  pub rows-at : {rs : List Rec} {ls : List (List ℕ)} → FileSays Idf3 rs file → File ls file → RowsAt (under Idf3 (titled rs)) file 0 ls rs (rowsOf file)
   rows-at {rs} {ls} s m =
       let w = accepted-exactly Idf3 file rs .1 s in
       let h : AtWalk begun [] = rows-in (length file) begun [] (omega arith) (omega arith) in
-      let p : RowsIn 0 ls rs (rowsOf file) = subst (λ (k : List (List ℕ)). RowsIn 0 k rs (rowsOf file)) (lines-complete m) (subst (ToldAt 0 (linesOf file) (rowsOf file)) (w .1) h) in
+      let p : RowsIn file 0 ls rs (rowsOf file) = subst (λ (k : List (List ℕ)). RowsIn file 0 k rs (rowsOf file)) (lines-complete m) (subst (ToldAt 0 (linesOf file) (rowsOf file)) (w .1) h) in
       spelled-rows (subst (SpellsLines (under Idf3 (titled rs)) outside rs) (lines-unique (s .made) m) (s .say .spelled)) p

@@ -1,42 +1,55 @@
 -- The file from a line on, and the row of a line by its place among the lines.
-use Prim.Native.Nat.{ℕ, suc, _+_}
-use mathlib.Core.Path.{_≡_, refl, sym, ap, subst, _∙_}
+use Prim.Native.Nat.{ℕ, _+_}
+use mathlib.Core.Path.{_≡_, refl, sym, ap, _∙_}
 use mathlib.Core.List.{List, [], _∷_, _++_, append-assoc}
+use native.Mathlib.Nat.{add-zero}
 use native.Mathlib.Omega.{arith}
-use lib.Seq.{drop-append-add}
+use lib.Seq.{drop-append-seam, drop-drop}
 use lib.IntN.{ℤ}
-use lib.ListN.{length, drop, length-append}
-use Rattle.law.specs.Lines.{File, Free, next}
+use lib.ListN.{length, drop, length-append, length-drop}
+use Rattle.basics.proofs.Lists.{at-end}
+use Rattle.law.specs.Lines.{File, Free, none, last, next, endBytes, placeBehind}
+use Rattle.text.proofs.LineSpelling.{end-bytes, end-some}
 use Rattle.law.specs.Values.{Rec}
 use Rattle.law.specs.declared.Context.{Context}
-use Rattle.law.specs.RowPlaces.{RowOf, RowsAt, free, line, startAfter, LineRow}
+use Rattle.law.specs.RowPlaces.{RowsAt, free, line, startAfter, LineRow}
+use Rattle.shown_places.proofs.ReaderPlaces.{none-long}
 
--- what stands behind a line and its byte 10
-pub drop-line : (u s : List ℕ) (k : ℕ) → drop k s ≡ drop (length u + 1 + k) (u ++ (10 ∷ s))
-drop-line u s k =
-    let n : length u + 1 + k ≡ length u + suc k = omega arith in
-    sym (ap (λ (i : ℕ). drop i (u ++ (10 ∷ s))) n ∙ drop-append-add u (10 ∷ s) (suc k))
+-- behind a line stand the lines that follow it, or nothing
+pub record Behind (file : List ℕ) (at : ℕ) (l : List ℕ) (more : List (List ℕ)) : Type 0 where
+  pub rest : File more (drop (placeBehind file at l) file)
+  pub out : more ≡ [] → placeBehind file at l ≡ length file
+
+pub behind : (file : List ℕ) (at : ℕ) {l s : List ℕ} {more : List (List ℕ)} → drop at file ≡ s → File (l ∷ more) s → Behind file at l more
+unfolding endBytes
+behind file at h (last {b = b} {l = l} a) =
+    let n : length file ≡ at + length (b ∷ l) = omega (arith, ap length h, length-drop at file) in
+    let d : drop (at + length (b ∷ l)) file ≡ [] = at-end file (at + length (b ∷ l)) (omega (arith, n)) in
+    let p : placeBehind file at (b ∷ l) ≡ at + length (b ∷ l) = rw d (add-zero _) in
+    record { rest = rw (p, d) none; out = λ c. p ∙ sym n }
+behind file at h (next {l = l} {e = e} {s = t} a k f) =
+    let n : length file ≡ at + (length l + (length e + length t)) = omega (arith, ap length h, length-drop at file, length-append l (e ++ t), length-append e t, end-some k) in
+    let d : drop (at + length l) file ≡ e ++ t = sym (drop-drop (length l) at file) ∙ ap (drop (length l)) h ∙ drop-append-seam l (e ++ t) in
+    let p : placeBehind file at l ≡ at + length l + length e = rw d (ap (λ (i : ℕ). at + length l + i) (end-bytes k t)) in
+    let q : drop (at + length l + length e) file ≡ t = sym (drop-drop (length e) (at + length l) file) ∙ ap (drop (length e)) d ∙ drop-append-seam e t in
+    record { rest = rw (p, q) f; out = λ c. omega (arith, p, n, none-long c f) }
 
 -- from the first byte of a line on, the file is made of it and the lines behind it
-pub rest-made : (us : List (List ℕ)) (l : List ℕ) (ms : List (List ℕ)) {file : List ℕ} → File (us ++ (l ∷ ms)) file → File (l ∷ ms) (drop (startAfter us) file)
+pub rest-made : (us : List (List ℕ)) (l : List ℕ) (ms : List (List ℕ)) (file : List ℕ) (b : ℕ) → File (us ++ (l ∷ ms)) (drop b file)
+    → File (l ∷ ms) (drop (startAfter file b us) file)
 unfolding startAfter
-rest-made [] l ms f = f
-rest-made (u ∷ []) l ms (next {s = s} a f) = subst (File (l ∷ ms)) (drop-line u s 0) f
-rest-made (u ∷ w ∷ us) l ms (next {s = s} a f) = subst (File (l ∷ ms)) (drop-line u s (startAfter (w ∷ us))) (rest-made (w ∷ us) l ms f)
+rest-made [] l ms file b f = f
+rest-made (u ∷ us) l ms file b f = rest-made us l ms file (placeBehind file b u) (behind file b refl f .rest)
 
 -- the row of a line, where the first line begins at b
-row-behind : (us : List (List ℕ)) (l : List ℕ) (ms : List (List ℕ)) {c : Context} {b : ℕ} {rs : List Rec} {xs : List ℤ} → (Free l → ⊥) → RowsAt c b (us ++ (l ∷ ms)) rs xs → LineRow c (b + startAfter us) l rs xs
+pub line-row : (us : List (List ℕ)) (l : List ℕ) (ms : List (List ℕ)) {c : Context} {file : List ℕ} {b : ℕ} {rs : List Rec} {xs : List ℤ} → (Free l → ⊥)
+    → RowsAt c file b (us ++ (l ∷ ms)) rs xs → LineRow c (startAfter file b us) l rs xs
 unfolding startAfter
-row-behind [] l ms {b} h (free f p) = absurd (h f)
-row-behind [] l ms {b} h (line {r = r} {rs = rs} {x = x} {xs = xs} f q p) =
-    let z : b ≡ b + 0 = omega arith in
-    record { before = []; its = r; after = rs; above = []; row = x; below = xs; records = refl; rows = refl; as-many = refl; spells = f; is = subst (λ (k : ℕ). RowOf k l r x) z q }
-row-behind (u ∷ us) l ms {c} {b} {rs} {xs} h (free f p) =
-    let z : b + length u + 1 + startAfter us ≡ b + (length u + 1 + startAfter us) = omega arith in
-    subst (λ (k : ℕ). LineRow c k l rs xs) z (row-behind us l ms h p)
-row-behind (u ∷ us) l ms {b} h (line {r = q} {x = y} f o p) =
-    let w = row-behind us l ms h p in
-    let z : b + length u + 1 + startAfter us ≡ b + (length u + 1 + startAfter us) = omega arith in
+line-row [] l ms h (free f p) = absurd (h f)
+line-row [] l ms h (line {r = r} {rs = rs} {x = x} {xs = xs} f q p) = record { before = []; its = r; after = rs; above = []; row = x; below = xs; records = refl; rows = refl; as-many = refl; spells = f; is = q }
+line-row (u ∷ us) l ms h (free f p) = line-row us l ms h p
+line-row (u ∷ us) l ms h (line {r = q} {x = y} f o p) =
+    let w = line-row us l ms h p in
     record {
       before = q ∷ w .before;
       its = w .its;
@@ -48,8 +61,5 @@ row-behind (u ∷ us) l ms {b} h (line {r = q} {x = y} f o p) =
       rows = ap (λ (k : List ℤ). y ++ k) (w .rows) ∙ sym (append-assoc y (w .above) (w .row ++ w .below));
       as-many = omega (arith, w .as-many, o .ten, length-append y (w .above));
       spells = w .spells;
-      is = subst (λ (k : ℕ). RowOf k l (w .its) (w .row)) z (w .is);
+      is = w .is;
     }
-
-pub line-row : (us : List (List ℕ)) (l : List ℕ) (ms : List (List ℕ)) {c : Context} {rs : List Rec} {xs : List ℤ} → (Free l → ⊥) → RowsAt c 0 (us ++ (l ∷ ms)) rs xs → LineRow c (startAfter us) l rs xs
-line-row us l ms {c} {rs} {xs} h p = let z : 0 + startAfter us ≡ startAfter us = omega arith in subst (λ (b : ℕ). LineRow c b l rs xs) z (row-behind us l ms h p)

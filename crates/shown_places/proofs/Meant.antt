@@ -1,15 +1,15 @@
 -- A row by its line means the values of its record: that rows mean the list of their file follows from the places.
 use Prim.Native.Nat.{ℕ, _+_, _≤_}
 use mathlib.Core.Path.{_≡_, refl, sym, ap, subst, _∙_}
-use mathlib.Core.List.{List, [], _∷_, _++_, map, append-assoc, append-nil}
+use mathlib.Core.List.{List, [], _∷_, _++_, map, append-assoc}
 use mathlib.Core.Bool.{false}
 use native.Mathlib.Omega.{arith}
 use lib.IntN.{ℤ, pos}
 use lib.ListN.{length, take, drop, replicate, length-append, length-replicate}
 use lib.Seq.{take-all, take-append-seam}
 use Rattle.law.specs.Fields.{Field, field, Spells, Spelled, bare, quoted}
-use Rattle.law.specs.Lines as made
-use Rattle.law.specs.Lines.{File}
+use Rattle.law.specs.Lines.{File, placeBehind}
+use Rattle.text.specs.Lines.{lineEnd}
 use Rattle.text_fields.proofs.FieldSpelling.{fields-unique}
 use Rattle.law.specs.Values.{Value, text, Rec}
 use Rattle.law.specs.Layouts.{Front, typesOf}
@@ -22,7 +22,7 @@ use Rattle.law.specs.declared.FieldType.the-variants.{Text as T, Reference as R
 use Rattle.law.specs.Rows as column
 use Rattle.law.specs.Rows.{Means, aNumber, aWord, aDate, aText, Holds, RowsMean}
 use Rattle.line_rows.specs.Meaning.{Part}
-use Rattle.line_rows.proofs.MeaningLaws.{part-bytes, part-within}
+use Rattle.line_rows.proofs.MeaningLaws.{part-bytes, part-cut, part-within}
 use Rattle.law.specs.RecordSpelling.{SpellsField, SpellsFields, SpellsLine, SpellsRecord, asText, asReference, asDate, asInteger, asNumber, asWord, none as noFields, more, withKeyword, withProp, asData, asLine}
 use Rattle.shown_told.proofs.Fronts.{types-laid}
 use Rattle.law.specs.FieldPlaces.{Spot, spotOf, SpelledAt, end, space, last, next, bytesOf}
@@ -31,6 +31,8 @@ use Rattle.law.specs.RowPlaces.{columnsOf, columnsOfAll, RowOf, RowsAt}
 use Rattle.shown_places.proofs.Spots.{fieldIn, map-many, erased}
 use Rattle.shown_places.proofs.LineRows.{fields-many}
 use Rattle.shown_places.proofs.OneRow.{ends-one}
+use Rattle.shown_places.proofs.ReaderPlaces.{first-is, some-left}
+use Rattle.shown_places.proofs.LinePlaces.{behind}
 
 -- One row
 
@@ -128,13 +130,14 @@ row-holds {c} {file} {b} {l} {r} {x} (asLine {l = y} k s) p q =
 
 -- The rows of lines that stand in the file from b on
 
-rows-hold : {t : FileType} {file : List ℕ} {b : ℕ} {ls : List (List ℕ)} {s : List ℕ} {rs : List Rec} {xs : List ℤ} → File ls s → Part file b s → RowsAt (under Idf3 t) b ls rs xs → RowsMean file rs xs
-rows-hold made.none p rows.end = column.none
-rows-hold (made.last a) p (rows.free f rows.end) = column.none
-rows-hold (made.last a) p (rows.line h x rows.end) = column.row (row-holds h p x) column.none
-rows-hold (made.next {l = l} {s = s} a m) p (rows.free f q) = rows-hold m (part-behind (10 ∷ []) s (part-behind l (10 ∷ s) p)) q
-rows-hold (made.next {l = l} {s = s} a m) p (rows.line h x q) = column.row (row-holds h (part-front l (10 ∷ s) p) x) (rows-hold m (part-behind (10 ∷ []) s (part-behind l (10 ∷ s) p)) q)
+line-part : (file : List ℕ) (b : ℕ) {l : List ℕ} {more : List (List ℕ)} → File (l ∷ more) (drop b file) → Part file b l
+line-part file b m = subst (Part file b) (first-is m) (part-cut file b (lineEnd (drop b file) .content) (omega (arith, some-left file b m)))
+
+rows-hold : {t : FileType} (file : List ℕ) (b : ℕ) {ls : List (List ℕ)} {rs : List Rec} {xs : List ℤ} → File ls (drop b file) → RowsAt (under Idf3 t) file b ls rs xs → RowsMean file rs xs
+rows-hold file b m rows.end = column.none
+rows-hold file b m (rows.free {l = l} f q) = rows-hold file (placeBehind file b l) (behind file b refl m .rest) q
+rows-hold file b m (rows.line {l = l} h x q) = column.row (row-holds h (line-part file b m) x) (rows-hold file (placeBehind file b l) (behind file b refl m .rest) q)
 
 -- of all lines of a file
-pub rows-meant : {t : FileType} {file : List ℕ} {ls : List (List ℕ)} {rs : List Rec} {xs : List ℤ} → File ls file → RowsAt (under Idf3 t) 0 ls rs xs → RowsMean file rs xs
-rows-meant {file = file} m p = rows-hold m (record { front = []; rest = []; is = sym (append-nil file); at = refl }) p
+pub rows-meant : {t : FileType} {file : List ℕ} {ls : List (List ℕ)} {rs : List Rec} {xs : List ℤ} → File ls file → RowsAt (under Idf3 t) file 0 ls rs xs → RowsMean file rs xs
+rows-meant {file = file} m p = rows-hold file 0 m p

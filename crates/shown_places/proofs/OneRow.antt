@@ -29,7 +29,7 @@ module _ {b : ℕ} {l : List ℕ} {r : Rec} where
       let n : p .left ≡ q .left = omega (arith, u, v, w, length-replicate (p .left) (pos 0), length-replicate (q .left) (pos 0), p .ten, q .ten, ap length (p .is), ap length (q .is)) in
       p .is ∙ rw (o, n) (sym (q .is))
 
-pub rows-one : {c : Context} {b : ℕ} {ls : List (List ℕ)} {rs : List Rec} {xs ys : List ℤ} → RowsAt c b ls rs xs → RowsAt c b ls rs ys → xs ≡ ys
+pub rows-one : {c : Context} {file : List ℕ} {b : ℕ} {ls : List (List ℕ)} {rs : List Rec} {xs ys : List ℤ} → RowsAt c file b ls rs xs → RowsAt c file b ls rs ys → xs ≡ ys
 rows-one end end = refl
 rows-one (free h p) (free i q) = rows-one p q
 rows-one (free h p) (line i x q) = absurd (record-not-free i h)

@@ -1,26 +1,23 @@
 -- The line at a reader's place: the numbers of its fields, and the place behind it.
 use Prim.Native.Nat.{ℕ, zero, suc, _+_, _<_}
 use mathlib.Core.Path.{_≡_, refl, sym, ap, _∙_}
-use mathlib.Core.List.{List, [], _∷_}
+use mathlib.Core.List.{List, [], _∷_, _++_}
 use mathlib.Core.Bool.{Bool, true, false, cond}
 use native.Mathlib.Omega.{arith}
-use borrow.Author.Tests.{lt-ltb, le-ltb}
-use lib.Dec.{ltb}
 use lib.IntN.{ℤ}
 use lib.ListN.{length, take, drop, length-drop, length-append}
 use lib.Seq.{length-take-le}
 use Rattle.law.specs.Bytes.{begins}
-use Rattle.law.specs.Lines.{File, none, last, next}
-use Rattle.text.specs.Lines.{endLen, contentLen, lineEnd}
-use Rattle.text.proofs.LineLaws.{content-le, lines-first}
-use Rattle.text.proofs.LineSpelling.{content-after, lines-complete}
+use Rattle.law.specs.Lines.{by-10, File, none, last, next, placeBehind}
+use Rattle.text.specs.Lines.{lineEnd}
+use Rattle.text.proofs.LineLaws.{lines-first}
+use Rattle.text.proofs.LineSpelling.{end-some, lines-complete, place-behind}
 use Rattle.text_fields.specs.FirstField.{fieldOf}
 use Rattle.text_fields.specs.declared.FieldAnswer.{FieldAnswer}
 use Rattle.text_fields.specs.declared.FieldAnswer.the-variants.{Nothing, Got, Broken}
 use Rattle.line_rows.proofs.LookLaws.{got-lies}
 use Rattle.viewer.specs.Views.{lineAt, nextAt, placesBy, placesIn, placesOf}
 use Rattle.law.specs.FieldPlaces.{Spot, SpelledAt, numbersOf}
-use Rattle.law.specs.Viewing.{placeBehind}
 use Rattle.shown_places.proofs.Spots.{spotsBy, spotsIn, spots-in}
 
 numbers-by : (x : FieldAnswer) (b : ℕ) (s : List ℕ) → fieldOf s ≡ x → (later : ℕ → List Spot) (rest : ℕ → List ℤ) → ((m : ℕ) → rest m ≡ numbersOf (later m))
@@ -49,27 +46,20 @@ places-are {b} {ps} {s} p = numbers-in (suc (length s)) b s ∙ ap numbersOf (sp
 pub none-long : {ls : List (List ℕ)} {s : List ℕ} → ls ≡ [] → File ls s → length s ≡ 0
 none-long e none = refl
 none-long e (last a) = let z : _≡_ {A = ℕ} 0 1 = cc in absurd (omega arith)
-none-long e (next a f) = let z : _≡_ {A = ℕ} 0 1 = cc in absurd (omega arith)
+none-long e (next a k f) = let z : _≡_ {A = ℕ} 0 1 = cc in absurd (omega arith)
 
 file-some : {l : List ℕ} {ls : List (List ℕ)} {s : List ℕ} → File (l ∷ ls) s → 0 < length s
 file-some (last a) = omega arith
-file-some (next {l = l} {s = s} a f) = omega (arith, length-append l (10 ∷ s))
+file-some (next {l = l} {e = e} {s = s} a k f) = omega (arith, length-append l (e ++ s), length-append e s, end-some k)
 
 begins-same : {l : List ℕ} {ls : List (List ℕ)} {s : List ℕ} → File (l ∷ ls) s → begins 35 s ≡ begins 35 l
 unfolding begins
 begins-same (last a) = refl
-begins-same (next {l = []} a f) = refl
-begins-same (next {l = b ∷ l} a f) = refl
+begins-same (next {l = []} a by-10 f) = refl
+begins-same (next {l = b ∷ l} a k f) = refl
 
-first-is : {l : List ℕ} {ls : List (List ℕ)} {s : List ℕ} → File (l ∷ ls) s → take (lineEnd s .content) s ≡ l
+pub first-is : {l : List ℕ} {ls : List (List ℕ)} {s : List ℕ} → File (l ∷ ls) s → take (lineEnd s .content) s ≡ l
 first-is {l} {ls} {s} m = let e = lines-complete m in let f = lines-first s (file-some m) in cc
-
--- behind a line's content stands what ends it, or nothing
-next-by : (s u : List ℕ) (a k : ℕ) → drop (contentLen s) s ≡ u → length s ≡ contentLen s + length u → a + length s ≡ k
-    → a + (contentLen s + endLen u) ≡ cond (ltb (a + contentLen s) k) (a + contentLen s + 1) (a + contentLen s)
-unfolding endLen
-next-by s [] a k e h i = rw (le-ltb (a + contentLen s) k (omega (arith, h, i))) (omega arith)
-next-by s (c ∷ t) a k e h i = rw (content-after s c t e, lt-ltb (a + contentLen s) k (omega (arith, h, i))) (omega arith)
 
 module _ (file : List ℕ) (at : ℕ) {line : List ℕ} {more : List (List ℕ)} (m : File (line ∷ more) (drop at file)) where
   -- a byte is left
@@ -84,11 +74,5 @@ module _ (file : List ℕ) (at : ℕ) {line : List ℕ} {more : List (List ℕ)}
 
   -- the next line begins behind it
   pub next-behind : nextAt file at ≡ placeBehind file at line
-  unfolding nextAt lineEnd
-  next-behind =
-      let s = drop at file in
-      let d = length-drop at file in
-      let l = length-take-le (contentLen s) s (content-le s) in
-      let e : take (contentLen s) s ≡ line = first-is m in
-      let k : contentLen s ≡ length line = sym l ∙ ap length e in
-      next-by s (drop (contentLen s) s) at (length file) refl (omega (arith, length-drop (contentLen s) s, content-le s)) (omega (arith, some-left)) ∙ rw k
+  unfolding nextAt
+  next-behind = place-behind file at ∙ rw (first-is m)

@@ -7,7 +7,7 @@ use borrow.Author.Tests.{eqb-true}
 use lib.Dec.{eqb}
 use lib.ListN.{take}
 use Rattle.law.specs.Bytes.{permitted, inLine, All}
-use Rattle.law.specs.Lines.{File, none, last, next}
+use Rattle.law.specs.Lines.{by-10, File, none, last, next}
 use Rattle.law.specs.Values.{Rec}
 use Rattle.law.specs.Fits.{under, WellFormed}
 use Rattle.law.specs.declared.Rules.{Rules}
@@ -36,11 +36,11 @@ pub data Lines : List (List ℕ) → Type 0 where
 pub file-lines : {ls : List (List ℕ)} {file : List ℕ} → File ls file → Lines ls
 file-lines none = no-line
 file-lines (last a) = and-line a no-line
-file-lines (next a f) = and-line a (file-lines f)
+file-lines (next a k f) = and-line a (file-lines f)
 
 lines-file : {ls : List (List ℕ)} → Lines ls → (file : List ℕ) × File ls file
 lines-file no-line = ([], none)
-lines-file (and-line {l} a m) = let w = lines-file m in (l ++ (10 ∷ w .0), next a (w .1))
+lines-file (and-line {l} a m) = let w = lines-file m in (l ++ (10 ∷ w .0), next a by-10 (w .1))
 
 lines-append : {ls ms : List (List ℕ)} → Lines ls → Lines ms → Lines (ls ++ ms)
 lines-append no-line b = b

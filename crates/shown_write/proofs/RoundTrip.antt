@@ -32,7 +32,7 @@ module _ (v : Rules) where
   text-made : (rs : List Rec) → Lines (canonicalLines v rs) → File (canonicalLines v rs) (canonicalText v rs)
   unfolding canonicalText
   text-made [] no-line = file.none
-  text-made (r ∷ rs) (and-line a m) = rw append-assoc (file.next a (text-made rs m))
+  text-made (r ∷ rs) (and-line a m) = rw append-assoc (file.next a file.by-10 (text-made rs m))
 
   -- the canonical text of a list that a file may say is a file that says it
   pub canonical-spells : {rs : List Rec} → Permitted v rs → Distinct v rs → FileSays v rs (canonicalText v rs)

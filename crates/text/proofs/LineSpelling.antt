@@ -7,14 +7,24 @@ use native.Mathlib.Nat.{add-zero}
 use native.Mathlib.Omega.{arith}
 use borrow.Author.Tests.{eqb-true, not-true}
 use lib.Dec.{eqb, ltb}
-use lib.ListN.{length, take, drop, length-drop, take-append-drop}
-use lib.Seq.{drop-append-seam, take-append-seam, take-all, drop-drop}
+use lib.ListN.{length, take, drop, length-drop, length-append, take-append-drop}
+use lib.Seq.{drop-append-seam, take-append-seam, take-all, drop-drop, length-take-le}
 use Rattle.basics.proofs.Lists.{at-end}
 use Rattle.law.specs.Bytes as by
 use Rattle.law.specs.Bytes.{inLine, All}
 use Rattle.text.specs.Lines.{endLen, contentLen, lineEnd, linesOf}
-use Rattle.law.specs.Lines.{File, none, last, next}
-use Rattle.text.proofs.LineLaws.{lines-none, lines-first}
+use Rattle.law.specs.Lines.{End, by-10, File, none, last, next, endBytes, placeBehind}
+use Rattle.text.proofs.LineLaws.{content-le, lines-none, lines-first}
+
+-- a line's end is some bytes, and ends what stands in front of a line as well as the line
+pub end-some : {l e : List ℕ} → End l e → 0 < length e
+end-some by-10 = omega arith
+
+further : {b : ℕ} {l e : List ℕ} → End l e → End (b ∷ l) e
+further by-10 = by-10
+
+fewer : {b : ℕ} {l e : List ℕ} → End (b ∷ l) e → End l e
+fewer by-10 = by-10
 
 -- a line's content holds no byte that ends a line
 content-all : (s : List ℕ) → All inLine (take (contentLen s) s)
@@ -26,15 +36,35 @@ content-all (b ∷ s) = go (eqb b 10) refl (content-all s)
     go true h a = by.none
     go false h a = by.one (ap not h) a
 
--- and what stands behind it is one
-pub content-after : (s : List ℕ) (c : ℕ) (t : List ℕ) → drop (contentLen s) s ≡ c ∷ t → c ≡ 10
+-- what ends the line l, and what stands behind its end, where u stands behind l
+pub record Ended (l u : List ℕ) : Type 0 where
+  pub by : List ℕ
+  pub rest : List ℕ
+  pub ends : End l by
+  pub is : u ≡ by ++ rest
+
+-- what stands behind a line's content, if anything does, ends it
+pub content-ends : (s : List ℕ) → 0 < length (drop (contentLen s) s) → Ended (take (contentLen s) s) (drop (contentLen s) s)
 unfolding contentLen endLen
-content-after [] c t e = let z : _≡_ {A = ℕ} 0 1 = cc in absurd (omega arith)
-content-after (b ∷ s) c t e = go (eqb b 10) refl e (content-after s c t)
+content-ends [] h = absurd (omega arith)
+content-ends (b ∷ s) h = go (eqb b 10) refl h (content-ends s)
   where
-    go : (q : Bool) → eqb b 10 ≡ q → drop (cond (ltb 0 (cond q 1 0)) 0 (suc (contentLen s))) (b ∷ s) ≡ c ∷ t → (drop (contentLen s) s ≡ c ∷ t → c ≡ 10) → c ≡ 10
-    go true h e ih = let f : b ≡ c = cc in omega (arith, eqb-true b 10 h)
-    go false h e ih = ih e
+    upTo : Bool → ℕ
+    upTo q = cond (ltb 0 (cond q 1 0)) 0 (suc (contentLen s))
+
+    go : (q : Bool) → eqb b 10 ≡ q → 0 < length (drop (upTo q) (b ∷ s)) → (0 < length (drop (contentLen s) s) → Ended (take (contentLen s) s) (drop (contentLen s) s))
+        → Ended (take (upTo q) (b ∷ s)) (drop (upTo q) (b ∷ s))
+    go true e h ih = record { by = 10 ∷ []; rest = s; ends = by-10; is = rw (eqb-true b 10 e) }
+    go false e h ih = let w = ih h in record { by = w .by; rest = w .rest; ends = further (w .ends); is = w .is }
+
+-- how long it is
+pub end-long : {l e : List ℕ} → End l e → (s : List ℕ) → endLen (e ++ s) ≡ length e
+unfolding endLen
+end-long by-10 s = refl
+
+pub end-bytes : {l e : List ℕ} → End l e → (s : List ℕ) → endBytes (e ++ s) ≡ length e
+unfolding endBytes
+end-bytes by-10 s = refl
 
 -- the content of a line that is made
 content-last : {l : List ℕ} → All inLine l → contentLen l ≡ length l
@@ -42,10 +72,10 @@ unfolding contentLen endLen
 content-last by.none = refl
 content-last (by.one {b} h a) = rw (not-true (eqb b 10) h) (ap suc (content-last a))
 
-content-next : {l : List ℕ} (s : List ℕ) → All inLine l → contentLen (l ++ (10 ∷ s)) ≡ length l
+content-next : {l e : List ℕ} (s : List ℕ) → All inLine l → End l e → contentLen (l ++ (e ++ s)) ≡ length l
 unfolding contentLen endLen
-content-next s by.none = refl
-content-next s (by.one {b} h a) = rw (not-true (eqb b 10) h) (ap suc (content-next s a))
+content-next s by.none by-10 = refl
+content-next s (by.one {b} h a) k = rw (not-true (eqb b 10) h) (ap suc (content-next s a (fewer k)))
 
 -- the first line of a file, by what stands behind its content
 lines-over : (s : List ℕ) → 0 < length s → drop (contentLen s) s ≡ [] → linesOf s ≡ s ∷ []
@@ -54,30 +84,33 @@ lines-over s h e =
     let n : length s ≤ contentLen s = omega (arith, length-drop (contentLen s) s, ap length e) in
     lines-first s h ∙ rw (e, take-all (contentLen s) s n, add-zero (contentLen s), e, lines-none)
 
-lines-cut : (s t : List ℕ) → drop (contentLen s) s ≡ 10 ∷ t → linesOf s ≡ take (contentLen s) s ∷ linesOf t
-unfolding lineEnd endLen
-lines-cut s t e =
-    let h : 0 < length s = omega (arith, length-drop (contentLen s) s, ap length e) in
-    let d : drop (contentLen s + 1) s ≡ t = sym (drop-drop 1 (contentLen s) s) ∙ rw e in
-    lines-first s h ∙ rw (e, d)
+lines-cut : {l : List ℕ} (s e t : List ℕ) → End l e → drop (contentLen s) s ≡ e ++ t → linesOf s ≡ take (contentLen s) s ∷ linesOf t
+unfolding lineEnd
+lines-cut s e t k f =
+    let h : 0 < length s = omega (arith, length-drop (contentLen s) s, ap length f, length-append e t, end-some k) in
+    let d : drop (contentLen s + length e) s ≡ t = sym (drop-drop (length e) (contentLen s) s) ∙ rw f (drop-append-seam e t) in
+    lines-first s h ∙ rw (f, end-long k t, d)
 
 -- Sound: a file's lines make it
 makes : (n : ℕ) (s : List ℕ) → length s ≤ n → File (linesOf s) s
 makes zero [] h = rw lines-none none
 makes zero (b ∷ s) h = absurd (omega arith)
 makes (suc n) [] h = rw lines-none none
-makes (suc n) (b ∷ s) h = go (drop (contentLen (b ∷ s)) (b ∷ s)) refl (λ t k. makes n t k)
+makes (suc n) (b ∷ s) h = go (drop (contentLen (b ∷ s)) (b ∷ s)) refl (content-ends (b ∷ s)) (λ t k. makes n t k)
   where
-    go : (u : List ℕ) → drop (contentLen (b ∷ s)) (b ∷ s) ≡ u → ((t : List ℕ) → length t ≤ n → File (linesOf t) t) → File (linesOf (b ∷ s)) (b ∷ s)
-    go [] e ih =
+    go : (u : List ℕ) → drop (contentLen (b ∷ s)) (b ∷ s) ≡ u → (0 < length u → Ended (take (contentLen (b ∷ s)) (b ∷ s)) u)
+        → ((t : List ℕ) → length t ≤ n → File (linesOf t) t) → File (linesOf (b ∷ s)) (b ∷ s)
+    go [] e w ih =
         let m : length (b ∷ s) ≤ contentLen (b ∷ s) = omega (arith, length-drop (contentLen (b ∷ s)) (b ∷ s), ap length e) in
         let a : All inLine (b ∷ s) = subst (All inLine) (take-all (contentLen (b ∷ s)) (b ∷ s) m) (content-all (b ∷ s)) in
         rw (lines-over (b ∷ s) (omega arith) e) (last a)
-    go (c ∷ t) e ih =
-        let f : drop (contentLen (b ∷ s)) (b ∷ s) ≡ 10 ∷ t = rw (content-after (b ∷ s) c t e) at e in
-        let g : take (contentLen (b ∷ s)) (b ∷ s) ++ (10 ∷ t) ≡ b ∷ s = ap (λ (r : List ℕ). take (contentLen (b ∷ s)) (b ∷ s) ++ r) (sym f) ∙ take-append-drop (contentLen (b ∷ s)) (b ∷ s) in
-        let k : length t ≤ n = omega (arith, length-drop (contentLen (b ∷ s)) (b ∷ s), ap length f) in
-        rw (lines-cut (b ∷ s) t f) (subst (File (take (contentLen (b ∷ s)) (b ∷ s) ∷ linesOf t)) g (next (content-all (b ∷ s)) (ih t k)))
+    go (c ∷ u) e w ih =
+        let k = w (omega arith) in
+        let t = k .rest in
+        let f : drop (contentLen (b ∷ s)) (b ∷ s) ≡ k .by ++ t = e ∙ k .is in
+        let g : take (contentLen (b ∷ s)) (b ∷ s) ++ (k .by ++ t) ≡ b ∷ s = ap (λ (r : List ℕ). take (contentLen (b ∷ s)) (b ∷ s) ++ r) (sym f) ∙ take-append-drop (contentLen (b ∷ s)) (b ∷ s) in
+        let m : length t ≤ n = omega (arith, length-drop (contentLen (b ∷ s)) (b ∷ s), ap length f, length-append (k .by) t, end-some (k .ends)) in
+        rw (lines-cut (b ∷ s) (k .by) t (k .ends) f) (subst (File (take (contentLen (b ∷ s)) (b ∷ s) ∷ linesOf t)) g (next (content-all (b ∷ s)) (k .ends) (ih t m)))
 
 pub lines-sound : (s : List ℕ) → File (linesOf s) s
 lines-sound s = makes (length s) s (omega arith)
@@ -86,11 +119,29 @@ lines-sound s = makes (length s) s (omega arith)
 pub lines-complete : {ls : List (List ℕ)} {s : List ℕ} → File ls s → linesOf s ≡ ls
 lines-complete none = lines-none
 lines-complete (last {b} {l} a) = lines-over (b ∷ l) (omega arith) (at-end (b ∷ l) (contentLen (b ∷ l)) (omega (arith, content-last a)))
-lines-complete (next {l} {ls} {s} a r) =
-    let n = content-next s a in
-    let e : drop (contentLen (l ++ (10 ∷ s))) (l ++ (10 ∷ s)) ≡ 10 ∷ s = rw n (drop-append-seam l (10 ∷ s)) in
-    lines-cut (l ++ (10 ∷ s)) s e ∙ rw (n, take-append-seam l (10 ∷ s), lines-complete r)
+lines-complete (next {l} {e} {ls} {s} a k r) =
+    let n = content-next s a k in
+    let f : drop (contentLen (l ++ (e ++ s))) (l ++ (e ++ s)) ≡ e ++ s = rw n (drop-append-seam l (e ++ s)) in
+    lines-cut (l ++ (e ++ s)) e s k f ∙ rw (n, take-append-seam l (e ++ s), lines-complete r)
 
 -- So one list of lines makes a file
 pub lines-unique : {ls ms : List (List ℕ)} {s : List ℕ} → File ls s → File ms s → ls ≡ ms
 lines-unique p q = sym (lines-complete p) ∙ lines-complete q
+
+-- The next line begins behind the end of the first, or at the end of the file
+
+behind-content : (s : List ℕ) → endLen (drop (contentLen s) s) ≡ endBytes (drop (contentLen s) s)
+unfolding endLen endBytes
+behind-content s = go (drop (contentLen s) s) (content-ends s)
+  where
+    go : (u : List ℕ) → (0 < length u → Ended (take (contentLen s) s) u) → endLen u ≡ endBytes u
+    go [] w = refl
+    go (c ∷ u) w = let k = w (omega arith) in subst (λ (x : List ℕ). endLen x ≡ endBytes x) (sym (k .is)) (end-long (k .ends) (k .rest) ∙ sym (end-bytes (k .ends) (k .rest)))
+
+pub place-behind : (file : List ℕ) (at : ℕ) → at + lineEnd (drop at file) .next ≡ placeBehind file at (take (lineEnd (drop at file) .content) (drop at file))
+unfolding lineEnd
+place-behind file at =
+    let s = drop at file in
+    let n : length (take (contentLen s) s) ≡ contentLen s = length-take-le (contentLen s) s (content-le s) in
+    let d : drop (at + contentLen s) file ≡ drop (contentLen s) s = sym (drop-drop (contentLen s) at file) in
+    rw (n, d) (omega (arith, behind-content s))
