@@ -7,7 +7,8 @@ use native.Mathlib.Omega.{arith}
 use lib.ListN.{length, replicate, length-replicate}
 use Rattle.rows_texts.specs.Names.{sameNames, refers}
 use Rattle.basics.specs.Integers.{eqZ}
-use Rattle.law.specs.Bytes.{permitted, allOf, begins, ascii}
+use Rattle.law.specs.Bytes.{permitted, allOf, begins, endsIn, ascii}
+use Rattle.law.specs.Lines.{closed, copied, windows}
 use Rattle.text_fields.specs.FirstField.{span, endsWell, bareAt, closedAt, quotedAt, fieldAt, fieldOf}
 use Rattle.text_fields.specs.Fields.{fieldsIn, fieldsOf}
 use Rattle.text.specs.Lines.{endLen, contentLen, lineEnd, linesOf}
@@ -56,7 +57,7 @@ use Rattle.judge.specs.Entries as entries
 use Rattle.judge.specs.Verdicts as judging
 use Rattle.judge.specs.Verdicts.{judgeReply}
 use Rattle.law.specs.declared.Reply.{Reply}
-use Rattle.law.specs.Files.{FileSays}
+use Rattle.law.specs.Files.{FileSays, Continues}
 use Rattle.shown_read.proofs.Checked.{check-large}
 use Rattle.law.specs.Rows.{RowsSay}
 use Rattle.shown_write.proofs.RowsWritten.{unwritable-iff}
@@ -135,6 +136,21 @@ pub answers :
 unfolding judgeReply judging.withLibrary judging.matched judging.placed judging.placedFrom examined typeFrom entries.lacksEntry entries.hasEntry entries.entryIn refers sameNames sameTexts textIs sameReply sameLists sameRow sameFrom agreesAt sameField ignoredAt listIn readReply checkReply surveyed endedBy repeatIn usedIn rowsIn traceAt traceIn turnOf lineIn judged ofKind dataBy filledBy kindOf filled fillFrom entryAt lineEnd contentLen endLen lineAs begins allOf permitted fieldsOf fieldsIn fieldOf fieldAt bareAt closedAt quotedAt endsWell span keywordOf keyFrom folded sameBytes placeOf wordsOf sections sectionNames kindAt sectionOf lineOf roleOf layoutOf typesOf keyKind dataKind mayStand mayOpen after moved stepped shapeOf manyLoops loopAfter eqZ meaning barred kept within beyond readField readNumber body whole decimals toCount digitHere readInteger unsigned digits isDate fitsIn isTwo datePieces
 answers = (refl, refl, refl, refl, refl, refl, refl, refl, refl, refl, refl, refl, refl, refl, refl, refl)
 
+-- lines that end with 13 and 10: the Windows copy, and a 13 at the end of a file, which a 10 behind it mends
+abbrev returned : List ℕ
+returned = library ++ (13 ∷ [])
+
+abbrev mended : List ℕ
+mended = library ++ (13 ∷ 10 ∷ [])
+
+pub endings :
+    (checkReply (windows library) ≡ reply 0 0 3)
+    × (sameReply library (windows library) ≡ verdict 0 0 1 0)
+    × (checkReply returned ≡ reply 3 4 0)
+    × (checkReply mended ≡ reply 0 0 3)
+unfolding copied sameReply sameLists sameRow sameFrom agreesAt sameField ignoredAt listIn readReply checkReply surveyed endedBy repeatIn usedIn rowsIn traceAt traceIn turnOf lineIn judged ofKind dataBy filledBy kindOf filled fillFrom entryAt lineEnd contentLen endLen lineAs begins allOf permitted fieldsOf fieldsIn fieldOf fieldAt bareAt closedAt quotedAt endsWell span keywordOf keyFrom folded sameBytes placeOf wordsOf sections sectionNames kindAt sectionOf lineOf roleOf layoutOf typesOf keyKind dataKind mayStand mayOpen after moved stepped shapeOf manyLoops loopAfter eqZ meaning barred kept within beyond readField readNumber body whole decimals toCount digitHere readInteger unsigned digits isDate fitsIn isTwo datePieces
+endings = (refl, refl, refl, refl)
+
 -- the rows of a file, written over its bytes: enough room, too little; no rows
 pub written :
     (writeReply (rowsOf library) library 61 ≡ reply 0 0 61)
@@ -181,6 +197,13 @@ fails-at-once = first-line (checked (answers .3)) (omega arith) (lines-sound mis
 
 pub fails-later : Fails (linesOf misquoted) 1
 fails-later = first-line (checked (answers .4)) (omega arith) (lines-sound misquoted) 1 .0 (omega arith, omega arith, refl)
+
+-- so the last line of a file that ends in 13 is rightly left out of the sentence over bytes
+pub fails-and-continues : Fails (linesOf returned) 3 × Continues Idf3 (closed returned)
+unfolding endsIn
+fails-and-continues =
+    let m = listed mended (endings .3) (omega arith) in
+    (first-line (checked (endings .2)) (omega arith) (lines-sound returned) 3 .0 (omega arith, omega arith, refl), record { more = []; records = m .0; say = m .1 })
 
 pub ends-early : Short (linesOf begun) begun
 ends-early = too-early (checked (answers .5)) (omega arith) (lines-sound begun) .0 .0 refl

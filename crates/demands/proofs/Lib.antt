@@ -5,6 +5,7 @@ pub mod WriteAnswers
 pub mod Starts
 pub mod Viewing
 pub mod Demands
+pub mod Endings
 pub mod Numbers
 pub mod Examples
 pub mod PTable

@@ -8,7 +8,7 @@ use native.Mathlib.Omega.{arith}
 use borrow.Author.Tests.{eq-eqb}
 use lib.Dec.{eqb}
 use lib.IntN.{ℤ, pos, negsuc, natAbs}
-use lib.ListN.{length, take}
+use lib.ListN.{length, take, getD, length-append}
 use Rattle.law.specs.Files.{Mendable}
 use Rattle.law.specs.Given.{Fails}
 use Rattle.law.specs.Bytes as by
@@ -44,9 +44,33 @@ use Rattle.law.specs.declared.Words.the-variants.{Units}
 use Rattle.law.specs.declared.FieldType.the-variants.{Word}
 use Rattle.law.proofs.Samples.{of, said, count, pointAt, title, heading, circled, placing, board, part, position, electrical, mechanical, library}
 
--- lines: byte 10 ends each, and the last may lack it
-pub two-lines : lines.File (ascii "a" ∷ ascii "b" ∷ []) (97 ∷ 10 ∷ 98 ∷ [])
-two-lines = lines.next (by.one refl by.none) lines.by-10 (lines.last (by.one refl by.none))
+-- lines: byte 10 ends each, or 13 and 10, and the last may lack its end
+pub either-end : lines.File (ascii "a" ∷ [] ∷ ascii "b" ∷ []) (97 ∷ 10 ∷ 13 ∷ 10 ∷ 98 ∷ [])
+unfolding by.endsIn
+either-end = lines.next (by.one refl by.none) (lines.by-10 refl) (lines.next by.none lines.by-13-10 (lines.last (by.one refl by.none)))
+
+-- a 13 before 10 is of the end, so it is not of the line
+no-line-13 : {ls : List (List ℕ)} {s : List ℕ} → lines.File ls s → ls ≡ (97 ∷ 13 ∷ []) ∷ [] → s ≡ 97 ∷ 13 ∷ 10 ∷ [] → ⊥
+unfolding by.endsIn
+no-line-13 lines.none e f = omega (arith, ap length e)
+no-line-13 (lines.last {b = b} {l = l} a) e f = let g : b ∷ l ≡ 97 ∷ 13 ∷ [] = ap (λ (x : List (List ℕ)). getD x 0 []) e in omega (arith, ap length f, ap length g)
+no-line-13 (lines.next {l = l} {s = s} a (lines.by-10 h) r) e f = let g : l ≡ 97 ∷ 13 ∷ [] = ap (λ (x : List (List ℕ)). getD x 0 []) e in false≢true (sym h ∙ ap (by.endsIn 13) g)
+no-line-13 (lines.next {l = l} {s = s} a lines.by-13-10 r) e f =
+    let g : l ≡ 97 ∷ 13 ∷ [] = ap (λ (x : List (List ℕ)). getD x 0 []) e in
+    omega (arith, ap length f, ap length g, length-append l (13 ∷ 10 ∷ s))
+
+pub one-line-alone : lines.File ((97 ∷ 13 ∷ []) ∷ []) (97 ∷ 13 ∷ 10 ∷ []) → ⊥
+one-line-alone m = no-line-13 m refl refl
+
+-- the Windows copy: a 13 before the first 10, none where one stands, none at the end
+pub copy : lines.windows (10 ∷ 13 ∷ 10 ∷ 97 ∷ 13 ∷ 13 ∷ 10 ∷ 13 ∷ []) ≡ 13 ∷ 10 ∷ 13 ∷ 10 ∷ 97 ∷ 13 ∷ 13 ∷ 10 ∷ 13 ∷ []
+unfolding lines.copied
+copy = refl
+
+-- a last line that lacks its end is given byte 10, and no other is
+pub shut : (lines.closed (97 ∷ 10 ∷ 98 ∷ []) ≡ 97 ∷ 10 ∷ 98 ∷ 10 ∷ []) × (lines.closed (97 ∷ 13 ∷ 10 ∷ []) ≡ 97 ∷ 13 ∷ 10 ∷ [])
+unfolding by.endsIn
+shut = (refl, refl)
 
 -- numbers: the hundred-thousandth keeps its sign, and a sixth decimal may be 0
 

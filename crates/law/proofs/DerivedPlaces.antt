@@ -70,37 +70,40 @@ its-row b =
       ten = refl;
     }
 
--- two such lines: the second begins at 9, behind the byte 10 of the first
-abbrev twice : List ℕ
-twice = property ++ (10 ∷ (property ++ (10 ∷ [])))
+-- three such lines: the second begins at 10, behind the bytes 13 and 10 of the first, and the third at 19, behind the byte 10 of the second
+abbrev thrice : List ℕ
+thrice = property ++ (13 ∷ 10 ∷ (property ++ (10 ∷ (property ++ (10 ∷ [])))))
 
-pub two-properties : RowsAt (under Idf3 Library) twice 0 (property ∷ property ∷ []) (its ∷ its ∷ []) (rowFrom 5 7 ++ (rowFrom 14 16 ++ []))
+pub three-properties : RowsAt (under Idf3 Library) thrice 0 (property ∷ property ∷ property ∷ []) (its ∷ its ∷ its ∷ []) (rowFrom 5 7 ++ (rowFrom 15 17 ++ (rowFrom 24 26 ++ [])))
 unfolding lines.endBytes
-two-properties = rows.line spells-property (its-row 0) (rows.line spells-property (its-row 9) rows.end)
+three-properties = rows.line spells-property (its-row 0) (rows.line spells-property (its-row 10) (rows.line spells-property (its-row 19) rows.end))
 
--- The line reader, over a comment, a tab, a quote, and two fields, with a slice of two numbers; then with one of five
+-- The line reader, over a comment, a tab, a quote before 13 and 10, and two fields, with a slice of two numbers; then with one of five
 
 abbrev four-lines : List ℕ
-four-lines = 35 ∷ 120 ∷ 10 ∷ 9 ∷ 10 ∷ 34 ∷ 10 ∷ 97 ∷ 32 ∷ 98 ∷ 10 ∷ []
+four-lines = 35 ∷ 120 ∷ 10 ∷ 9 ∷ 10 ∷ 34 ∷ 13 ∷ 10 ∷ 97 ∷ 32 ∷ 98 ∷ 10 ∷ []
 
 abbrev sevens : List ℤ
 sevens = pos 7 ∷ pos 7 ∷ []
 
-two-fields : SpelledAt 7 (record { at = 7; what = field false (ascii "a") } ∷ record { at = 9; what = field false (ascii "b") } ∷ []) (97 ∷ 32 ∷ 98 ∷ [])
+two-fields : SpelledAt 8 (record { at = 8; what = field false (ascii "a") } ∷ record { at = 10; what = field false (ascii "b") } ∷ []) (97 ∷ 32 ∷ 98 ∷ [])
 two-fields = next (one-byte 97 refl) (space (last (one-byte 98 refl)))
 
 -- the lines from each place on
 fourth-on : lines.File ((97 ∷ 32 ∷ 98 ∷ []) ∷ []) (97 ∷ 32 ∷ 98 ∷ 10 ∷ [])
-fourth-on = lines.next (by.one refl (by.one refl (by.one refl by.none))) lines.by-10 lines.none
+unfolding by.endsIn
+fourth-on = lines.next (by.one refl (by.one refl (by.one refl by.none))) (lines.by-10 refl) lines.none
 
-third-on : lines.File ((34 ∷ []) ∷ (97 ∷ 32 ∷ 98 ∷ []) ∷ []) (34 ∷ 10 ∷ 97 ∷ 32 ∷ 98 ∷ 10 ∷ [])
-third-on = lines.next (by.one refl by.none) lines.by-10 fourth-on
+third-on : lines.File ((34 ∷ []) ∷ (97 ∷ 32 ∷ 98 ∷ []) ∷ []) (34 ∷ 13 ∷ 10 ∷ 97 ∷ 32 ∷ 98 ∷ 10 ∷ [])
+third-on = lines.next (by.one refl by.none) lines.by-13-10 fourth-on
 
-second-on : lines.File ((9 ∷ []) ∷ (34 ∷ []) ∷ (97 ∷ 32 ∷ 98 ∷ []) ∷ []) (9 ∷ 10 ∷ 34 ∷ 10 ∷ 97 ∷ 32 ∷ 98 ∷ 10 ∷ [])
-second-on = lines.next (by.one refl by.none) lines.by-10 third-on
+second-on : lines.File ((9 ∷ []) ∷ (34 ∷ []) ∷ (97 ∷ 32 ∷ 98 ∷ []) ∷ []) (9 ∷ 10 ∷ 34 ∷ 13 ∷ 10 ∷ 97 ∷ 32 ∷ 98 ∷ 10 ∷ [])
+unfolding by.endsIn
+second-on = lines.next (by.one refl by.none) (lines.by-10 refl) third-on
 
 first-on : lines.File ((35 ∷ 120 ∷ []) ∷ (9 ∷ []) ∷ (34 ∷ []) ∷ (97 ∷ 32 ∷ 98 ∷ []) ∷ []) four-lines
-first-on = lines.next (by.one refl (by.one refl by.none)) lines.by-10 second-on
+unfolding by.endsIn
+first-on = lines.next (by.one refl (by.one refl by.none)) (lines.by-10 refl) second-on
 
 tab-barred : All permitted (9 ∷ []) → ⊥
 unfolding permitted
@@ -129,19 +132,19 @@ pub second-call : Shown four-lines 3 2 sevens (reply 3 2 0) 5 3 sevens
 unfolding begins lines.endBytes
 second-call = not-permitted (omega arith) second-on refl tab-barred
 
-pub third-call : Shown four-lines 5 3 sevens (reply 4 3 0) 7 4 sevens
+pub third-call : Shown four-lines 5 3 sevens (reply 4 3 0) 8 4 sevens
 unfolding begins permitted lines.endBytes
 third-call = no-fields (omega arith) third-on refl (by.one refl by.none) (λ fs p. no-quote p refl)
 
-pub fourth-call : Shown four-lines 7 4 sevens (reply 2 0 2) 7 4 sevens
+pub fourth-call : Shown four-lines 8 4 sevens (reply 2 0 2) 8 4 sevens
 unfolding begins permitted
 fourth-call = too-short (omega arith) fourth-on (fields refl (by.one refl (by.one refl (by.one refl by.none))) two-fields) (omega arith)
 
-pub fifth-call : Shown four-lines 7 4 (pos 7 ∷ pos 7 ∷ pos 7 ∷ sevens) (reply 0 0 2) 11 5 (pos 7 ∷ pos 1 ∷ pos 9 ∷ pos 1 ∷ pos 7 ∷ [])
+pub fifth-call : Shown four-lines 8 4 (pos 7 ∷ pos 7 ∷ pos 7 ∷ sevens) (reply 0 0 2) 12 5 (pos 8 ∷ pos 1 ∷ pos 10 ∷ pos 1 ∷ pos 7 ∷ [])
 unfolding begins permitted numbersOf lines.endBytes
 fifth-call = whole (omega arith) fourth-on (fields refl (by.one refl (by.one refl (by.one refl by.none))) two-fields) (omega arith)
 
-pub sixth-call : Shown four-lines 11 5 sevens (reply 13 5 0) 11 5 sevens
+pub sixth-call : Shown four-lines 12 5 sevens (reply 13 5 0) 12 5 sevens
 sixth-call = no-line (omega arith) lines.none
 
 no-move : {k : ℕ} → MovesOn k → (k ≡ 2 → ⊥) × (k ≡ 13 → ⊥)
@@ -150,7 +153,7 @@ no-move after-3 = (λ e. omega arith, λ e. omega arith)
 no-move after-4 = (λ e. omega arith, λ e. omega arith)
 
 -- four of the six moved the reader on
-pub six-calls : Called four-lines 4 11 5
+pub six-calls : Called four-lines 4 12 5
 six-calls =
     stayed
     (moved

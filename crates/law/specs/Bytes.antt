@@ -47,3 +47,9 @@ allOf p (b ∷ s) = p b && allOf p s
 unfoldable pub begins : ℕ → List ℕ → Bool
 begins a [] = false
 begins a (b ∷ s) = eqb b a
+
+-- ends in a byte
+unfoldable pub endsIn : ℕ → List ℕ → Bool
+endsIn a [] = false
+endsIn a (b ∷ []) = eqb b a
+endsIn a (b ∷ c ∷ s) = endsIn a (c ∷ s)

@@ -37,3 +37,9 @@ pub record Mendable (v : Rules) (ls : List (List ℕ)) : Type 0 where
   pub file : List ℕ
   pub made : File (ls ++ more) file
   pub say : LinesSay v records (ls ++ more)
+
+-- some further bytes make a file of these that says a permitted list
+pub record Continues (v : Rules) (s : List ℕ) : Type 0 where
+  pub more : List ℕ
+  pub records : List Rec
+  pub say : FileSays v records (s ++ more)

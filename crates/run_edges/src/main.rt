@@ -16,4 +16,5 @@ fn main() {
     texts::quoted_lines();
     texts::forbidden_lines();
     texts::files();
+    texts::windows_files();
 }

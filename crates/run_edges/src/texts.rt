@@ -167,7 +167,7 @@ pub(crate) fn forbidden_lines() {
     line(b"tab", b"a\tb");
 }
 
-// Line ends: none, alone, lost, inside a quote, behind byte 13.
+// Line ends: none, alone, lost, inside a quote.
 pub(crate) fn files() {
     file(b"nothing", b"");
     file(b"no byte 10", b"a b");
@@ -175,5 +175,14 @@ pub(crate) fn files() {
     file(b"three bytes 10", b"\n\n\n");
     file(b"an end lost", b"a\n\nbc");
     file(b"a quote open over an end", b"\"a\nb\"");
+}
+
+// Line ends with byte 13, and bytes 13 that belong to none.
+pub(crate) fn windows_files() {
     file(b"13, 10", b"a\r\nb");
+    file(b"13, 10 alone", b"\r\n");
+    file(b"13, 10 and 10", b"a\r\nb\n\r\n");
+    file(b"13, 13, 10", b"a\r\r\nb");
+    file(b"13 at the end", b"a\r");
+    file(b"13 inside", b"a\rb\n");
 }

@@ -13,18 +13,13 @@ use Rattle.viewer.specs.Views.{movesOn}
 use Rattle.law.specs.RowPlaces.{startAfter}
 use Rattle.law.specs.Viewing.{numberBehind, too-large, no-line, not-permitted, no-fields, too-short, whole, MovesOn, after-0, after-3, after-4, Called, opened, moved, stayed}
 use Rattle.shown_places.proofs.ReaderPlaces.{none-long}
-use Rattle.shown_places.proofs.LinePlaces.{behind}
+use Rattle.shown_places.proofs.LinePlaces.{behind, start-more}
 
 -- no more lines than bytes
 lines-fewer : {ls : List (List ℕ)} {s : List ℕ} → File ls s → length ls ≤ length s
 lines-fewer none = omega arith
 lines-fewer (last a) = omega arith
 lines-fewer (next {l = l} {e = e} {s = s} a k f) = omega (arith, lines-fewer f, length-append l (e ++ s), length-append e s, end-some k)
-
-start-more : (file : List ℕ) (b : ℕ) (us : List (List ℕ)) (l : List ℕ) → startAfter file b (us ++ (l ∷ [])) ≡ placeBehind file (startAfter file b us) l
-unfolding startAfter
-start-more file b [] l = refl
-start-more file b (u ∷ us) l = start-more file (placeBehind file b u) us l
 
 moves-true : {k : ℕ} → MovesOn k → movesOn k ≡ true
 moves-true after-0 = refl

@@ -7,5 +7,6 @@ pub mod ReaderPlaces
 pub mod ViewAnswers
 pub mod LinePlaces
 pub mod CalledReaders
+pub mod Continued
 pub mod Meant
 pub mod Examples

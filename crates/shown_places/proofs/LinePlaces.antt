@@ -8,7 +8,7 @@ use lib.Seq.{drop-append-seam, drop-drop}
 use lib.IntN.{ℤ}
 use lib.ListN.{length, drop, length-append, length-drop}
 use Rattle.basics.proofs.Lists.{at-end}
-use Rattle.law.specs.Lines.{File, Free, none, last, next, endBytes, placeBehind}
+use Rattle.law.specs.Lines.{End, File, Free, none, last, next, endBytes, placeBehind}
 use Rattle.text.proofs.LineSpelling.{end-bytes, end-some}
 use Rattle.law.specs.Values.{Rec}
 use Rattle.law.specs.declared.Context.{Context}
@@ -20,6 +20,12 @@ pub record Behind (file : List ℕ) (at : ℕ) (l : List ℕ) (more : List (List
   pub rest : File more (drop (placeBehind file at l) file)
   pub out : more ≡ [] → placeBehind file at l ≡ length file
 
+-- how far behind its first byte
+pub end-place : (file : List ℕ) (at : ℕ) {l e : List ℕ} (t : List ℕ) → End l e → drop at file ≡ l ++ (e ++ t) → placeBehind file at l ≡ at + length l + length e
+end-place file at {l} {e} t k h =
+    let d : drop (at + length l) file ≡ e ++ t = sym (drop-drop (length l) at file) ∙ ap (drop (length l)) h ∙ drop-append-seam l (e ++ t) in
+    rw d (ap (λ (i : ℕ). at + length l + i) (end-bytes k t))
+
 pub behind : (file : List ℕ) (at : ℕ) {l s : List ℕ} {more : List (List ℕ)} → drop at file ≡ s → File (l ∷ more) s → Behind file at l more
 unfolding endBytes
 behind file at h (last {b = b} {l = l} a) =
@@ -29,10 +35,15 @@ behind file at h (last {b = b} {l = l} a) =
     record { rest = rw (p, d) none; out = λ c. p ∙ sym n }
 behind file at h (next {l = l} {e = e} {s = t} a k f) =
     let n : length file ≡ at + (length l + (length e + length t)) = omega (arith, ap length h, length-drop at file, length-append l (e ++ t), length-append e t, end-some k) in
+    let p : placeBehind file at l ≡ at + length l + length e = end-place file at t k h in
     let d : drop (at + length l) file ≡ e ++ t = sym (drop-drop (length l) at file) ∙ ap (drop (length l)) h ∙ drop-append-seam l (e ++ t) in
-    let p : placeBehind file at l ≡ at + length l + length e = rw d (ap (λ (i : ℕ). at + length l + i) (end-bytes k t)) in
     let q : drop (at + length l + length e) file ≡ t = sym (drop-drop (length e) (at + length l) file) ∙ ap (drop (length e)) d ∙ drop-append-seam e t in
     record { rest = rw (p, q) f; out = λ c. omega (arith, p, n, none-long c f) }
+
+pub start-more : (file : List ℕ) (b : ℕ) (us : List (List ℕ)) (l : List ℕ) → startAfter file b (us ++ (l ∷ [])) ≡ placeBehind file (startAfter file b us) l
+unfolding startAfter
+start-more file b [] l = refl
+start-more file b (u ∷ us) l = start-more file (placeBehind file b u) us l
 
 -- from the first byte of a line on, the file is made of it and the lines behind it
 pub rest-made : (us : List (List ℕ)) (l : List ℕ) (ms : List (List ℕ)) (file : List ℕ) (b : ℕ) → File (us ++ (l ∷ ms)) (drop b file)

@@ -8,7 +8,7 @@ use lib.IntN.{ℤ}
 use lib.ListN.{length, take, drop, length-drop, length-append}
 use lib.Seq.{length-take-le}
 use Rattle.law.specs.Bytes.{begins}
-use Rattle.law.specs.Lines.{by-10, File, none, last, next, placeBehind}
+use Rattle.law.specs.Lines.{by-10, by-13-10, File, none, last, next, placeBehind}
 use Rattle.text.specs.Lines.{lineEnd}
 use Rattle.text.proofs.LineLaws.{lines-first}
 use Rattle.text.proofs.LineSpelling.{end-some, lines-complete, place-behind}
@@ -55,7 +55,8 @@ file-some (next {l = l} {e = e} {s = s} a k f) = omega (arith, length-append l (
 begins-same : {l : List ℕ} {ls : List (List ℕ)} {s : List ℕ} → File (l ∷ ls) s → begins 35 s ≡ begins 35 l
 unfolding begins
 begins-same (last a) = refl
-begins-same (next {l = []} a by-10 f) = refl
+begins-same (next {l = []} a (by-10 h) f) = refl
+begins-same (next {l = []} a by-13-10 f) = refl
 begins-same (next {l = b ∷ l} a k f) = refl
 
 pub first-is : {l : List ℕ} {ls : List (List ℕ)} {s : List ℕ} → File (l ∷ ls) s → take (lineEnd s .content) s ≡ l

@@ -1,13 +1,14 @@
 -- Lines that are read through begin a file that says a permitted list: the canonical lines of the records that are still needed end it.
 use Prim.Native.Nat.{ℕ, zero, suc}
-use mathlib.Core.Path.{_≡_, refl}
-use mathlib.Core.List.{List, [], _∷_, _++_}
+use mathlib.Core.Path.{_≡_, refl, sym, ap, _∙_}
+use mathlib.Core.List.{List, [], _∷_, _++_, append-assoc}
 use mathlib.Core.Bool.{Bool, true, false, not, false≢true}
 use borrow.Author.Tests.{eqb-true}
 use lib.Dec.{eqb}
 use lib.ListN.{take}
-use Rattle.law.specs.Bytes.{permitted, inLine, All}
-use Rattle.law.specs.Lines.{by-10, File, none, last, next}
+use Rattle.law.specs.Bytes as by
+use Rattle.law.specs.Bytes.{permitted, inLine, endsIn, All}
+use Rattle.law.specs.Lines.{End, by-10, by-13-10, File, none, last, next}
 use Rattle.law.specs.Values.{Rec}
 use Rattle.law.specs.Fits.{under, WellFormed}
 use Rattle.law.specs.declared.Rules.{Rules}
@@ -17,7 +18,7 @@ use Rattle.order.specs.Automaton.{start}
 use Rattle.order.specs.declared.State.{State}
 use Rattle.shown_lists.proofs.FirstLine.{through-viable}
 use Rattle.law.specs.RecordSpelling.{SpellsRecord, asLine}
-use Rattle.law.specs.Canonical.{canonicalRecord}
+use Rattle.law.specs.Canonical.{canonicalRecord, canonicalText}
 use Rattle.law.specs.LineSpelling.{Where, SpellsLines, end, line}
 use Rattle.shown_spelling.proofs.BareBytes.{all-map}
 use Rattle.shown_spelling.proofs.LineSpelling.{line-first}
@@ -38,9 +39,9 @@ file-lines none = no-line
 file-lines (last a) = and-line a no-line
 file-lines (next a k f) = and-line a (file-lines f)
 
-lines-file : {ls : List (List ℕ)} → Lines ls → (file : List ℕ) × File ls file
+pub lines-file : {ls : List (List ℕ)} → Lines ls → (file : List ℕ) × File ls file
 lines-file no-line = ([], none)
-lines-file (and-line {l} a m) = let w = lines-file m in (l ++ (10 ∷ w .0), next a by-10 (w .1))
+lines-file (and-line {l} a m) = let w = lines-file m in (l ++ (13 ∷ 10 ∷ w .0), next a by-13-10 (w .1))
 
 lines-append : {ls ms : List (List ℕ)} → Lines ls → Lines ms → Lines (ls ++ ms)
 lines-append no-line b = b
@@ -52,16 +53,30 @@ lines-take (suc i) no-line = no-line
 lines-take (suc i) (and-line a m) = and-line a (lines-take i m)
 
 -- permitted bytes end no line
-permitted-in : (b : ℕ) → permitted b ≡ true → inLine b ≡ true
-unfolding permitted
-permitted-in b h = go (eqb b 10) refl
+permitted-is : (b n : ℕ) → permitted n ≡ false → permitted b ≡ true → eqb b n ≡ false
+permitted-is b n f h = go (eqb b n) refl
   where
-    go : (t : Bool) → eqb b 10 ≡ t → not t ≡ true
-    go true e = absurd (false≢true (rw (eqb-true b 10 e) at h))
+    go : (t : Bool) → eqb b n ≡ t → t ≡ false
+    go true e = absurd (false≢true (sym f ∙ ap permitted (sym (eqb-true b n e)) ∙ h))
     go false e = refl
 
-spelled-in : {c : Context} {r : Rec} {l : List ℕ} → SpellsRecord c r l → All inLine l
-spelled-in (asLine e p) = all-map permitted-in (line-first p .clean)
+permitted-in : (b : ℕ) → permitted b ≡ true → inLine b ≡ true
+unfolding permitted
+permitted-in b h = ap not (permitted-is b 10 refl h)
+
+permitted-last : {l : List ℕ} → All permitted l → endsIn 13 l ≡ false
+unfolding permitted endsIn
+permitted-last by.none = refl
+permitted-last (by.one {b = b} h by.none) = permitted-is b 13 refl h
+permitted-last (by.one h (by.one i a)) = permitted-last (by.one i a)
+
+module _ {c : Context} {r : Rec} {l : List ℕ} where
+  spelled-in : SpellsRecord c r l → All inLine l
+  spelled-in (asLine e p) = all-map permitted-in (line-first p .clean)
+
+  -- so byte 10 alone may end a line that spells a record
+  spelled-ends : SpellsRecord c r l → End l (10 ∷ [])
+  spelled-ends (asLine e p) = by-10 (permitted-last (line-first p .clean))
 
 module _ (v : Rules) where
   abbrev pub canonicalLines : List Rec → List (List ℕ)
@@ -69,9 +84,15 @@ module _ (v : Rules) where
   canonicalLines (r ∷ rs) = canonicalRecord v r ∷ canonicalLines rs
 
   module _ (u : FileType) where
-    pub canonical-lines : {rs : List Rec} → Every (λ r. WellFormed (under v u) r) rs → Lines (canonicalLines rs)
+    canonical-lines : {rs : List Rec} → Every (λ r. WellFormed (under v u) r) rs → Lines (canonicalLines rs)
     canonical-lines every.none = no-line
     canonical-lines (every.one {r} h f) = and-line (spelled-in (canonical-spells (under v u) r h)) (canonical-lines f)
+
+    -- they make the canonical text
+    pub canonical-file : {rs : List Rec} → Every (λ r. WellFormed (under v u) r) rs → File (canonicalLines rs) (canonicalText v rs)
+    unfolding canonicalText
+    canonical-file every.none = none
+    canonical-file (every.one {r} h f) = let s = canonical-spells (under v u) r h in rw append-assoc (next (spelled-in s) (spelled-ends s) (canonical-file f))
 
     pub canonical-spell : {rs : List Rec} {w : Where} → Every (λ r. WellFormed (under v u) r) rs → SpellsLines (under v u) w rs (canonicalLines rs)
     canonical-spell every.none = end

@@ -2,13 +2,11 @@
 use Prim.Native.Nat.{ℕ, _*_, _/_, _≤_}
 use mathlib.Core.Path.{_≡_, refl, sym, ap, _∙_, subst}
 use mathlib.Core.Logic.{_↔_}
-use mathlib.Core.List.{List, [], _∷_, _++_, append-nil, append-assoc}
+use mathlib.Core.List.{List, [], _∷_, _++_, append-nil}
 use native.Mathlib.Omega.{arith}
 use lib.IntN.{ℤ}
 use lib.ListN.{length, take, drop, drop-of-length-le}
 use lib.Seq.{take-at}
-use Rattle.law.specs.Lines as file
-use Rattle.law.specs.Lines.{File}
 use Rattle.law.specs.Values.{Rec}
 use Rattle.law.specs.declared.Rules.{Rules}
 use Rattle.law.specs.declared.Rules.the-variants.{Idf3}
@@ -19,7 +17,7 @@ use Rattle.read.specs.Replies.{checkReply, rowsOf, readRows}
 use Rattle.write.specs.Outcomes.{writeReply, writeText}
 use Rattle.law.specs.Files.{titled, FileSays}
 use Rattle.shown_told.proofs.WellFormedLists.{permitted-fit}
-use Rattle.shown_told.proofs.Mending.{Lines, no-line, and-line, canonicalLines, canonical-lines, canonical-spell}
+use Rattle.shown_told.proofs.Mending.{canonicalLines, canonical-file, canonical-spell}
 use Rattle.shown_told.proofs.WholeFiles.{one-list}
 use Rattle.shown_read.proofs.Checked.{check-rows, check-long, check-count}
 use Rattle.shown_read.proofs.ReadSays.{read-puts}
@@ -28,12 +26,6 @@ use Rattle.shown_write.proofs.WholeRows.{all-whole}
 use Rattle.shown_write.proofs.RowsWritten.{write-says, write-puts}
 
 module _ (v : Rules) where
-  -- the text is the file of the canonical lines
-  text-made : (rs : List Rec) → Lines (canonicalLines v rs) → File (canonicalLines v rs) (canonicalText v rs)
-  unfolding canonicalText
-  text-made [] no-line = file.none
-  text-made (r ∷ rs) (and-line a m) = rw append-assoc (file.next a file.by-10 (text-made rs m))
-
   -- the canonical text of a list that a file may say is a file that says it
   pub canonical-spells : {rs : List Rec} → Permitted v rs → Distinct v rs → FileSays v rs (canonicalText v rs)
   canonical-spells {rs} p d =
@@ -41,7 +33,7 @@ module _ (v : Rules) where
       let u = titled rs in
       record {
         lines = canonicalLines v rs;
-        made = text-made rs (canonical-lines v u f);
+        made = canonical-file v u f;
         say = record { spelled = canonical-spell v u f; permitted = p; distinct = d };
       }
 

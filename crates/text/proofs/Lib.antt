@@ -1,3 +1,5 @@
 pub mod ByteLaws
 pub mod LineLaws
 pub mod LineSpelling
+pub mod LineFeeds
+pub mod Copies

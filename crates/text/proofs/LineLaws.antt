@@ -1,82 +1,32 @@
--- Laws of a line's end, of a file's lines and of a line's look. Only the first three speak of what `endLen` says.
-use Prim.Native.Nat.{ℕ, zero, suc, _+_, _^_, _≤_, _<_}
-use mir.Syntax.{w64}
-use mir.Val.{Fits}
-use mathlib.Core.Path.{_≡_, refl, sym, ap}
+-- Laws of a line's end, of a file's lines and of a line's look. Only the first speaks of what `endLen` says.
+use Prim.Native.Nat.{ℕ, zero, suc, _+_, _≤_, _<_}
+use mathlib.Core.Path.{_≡_, refl, ap}
 use mathlib.Core.List.{List, [], _∷_}
-use mathlib.Core.Bool.{Bool, true, false, cond}
+use mathlib.Core.Bool.{Bool, true, false, cond, _&&_}
 use native.Mathlib.Nat.{not-suc-le-zero}
 use native.Mathlib.Omega.{arith}
-use native.Mathlib.Numerals.{add-one}
-use borrow.Author.Tests.{eq-eqb, ne-eqb, lt-ltb, ltb-true}
+use borrow.Author.Tests.{ltb-true}
 use lib.Dec.{eqb, ltb}
-use lib.ListN.{length, take, drop, getD, length-drop}
-use Rattle.basics.proofs.Lists.{at-cons, at-end}
+use lib.ListN.{length, take, drop, length-drop}
+use Rattle.law.specs.Bytes.{begins}
 use Rattle.text.specs.Lines.{endLen, contentLen, lineEnd, linesIn, linesOf}
 use Rattle.text.specs.declared.LineEnd.{LineEnd}
 
-module _ (s : List ℕ) (i : ℕ) (h : i < length s) where
-  pub end-here : getD s i 0 ≡ 10 → 1 ≡ endLen (drop i s)
-  unfolding endLen
-  end-here e = rw (at-cons s i h, eq-eqb (getD s i 0) 10 e)
-
-  pub end-not : (getD s i 0 ≡ 10 → ⊥) → 0 ≡ endLen (drop i s)
-  unfolding endLen
-  end-not e = rw (at-cons s i h, ne-eqb (getD s i 0) 10 e)
-
 -- a line's end is no longer than what is left
 pub end-le : (s : List ℕ) → endLen s ≤ length s
-unfolding endLen
+unfolding endLen begins
 end-le [] = omega arith
-end-le (b ∷ s) = go (eqb b 10)
+end-le (b ∷ s) = go (eqb b 10) (eqb b 13) s
   where
-    go : (t : Bool) → cond t 1 0 ≤ suc (length s)
-    go true = omega arith
-    go false = omega arith
-
--- a loop that looks for the line's end: none stands before `i`
-pub record Seeking (s : List ℕ) (i : ℕ) : Type 0 where
-  pub within : i ≤ length s
-  pub left : contentLen s ≡ i + contentLen (drop i s)
-
-module _ (s : List ℕ) (i : ℕ) where
-  content-more : i < length s → endLen (drop i s) ≡ 0 → contentLen (drop i s) ≡ contentLen (drop (i + 1) s) + 1
-  unfolding contentLen
-  content-more h e = let f : endLen (getD s i 0 ∷ drop (i + 1) s) ≡ 0 = rw (at-cons s i h) at e in rw (at-cons s i h, f) (sym (add-one _))
-
-  content-stop : i < length s → 0 < endLen (drop i s) → contentLen (drop i s) ≡ 0
-  unfolding contentLen
-  content-stop h e = let f : 0 < endLen (getD s i 0 ∷ drop (i + 1) s) = rw (at-cons s i h) at e in rw (at-cons s i h, lt-ltb 0 _ f)
-
-  content-over : length s ≤ i → contentLen (drop i s) ≡ 0
-  unfolding contentLen
-  content-over h = rw (at-end s i h)
-
--- what the loop answers: the content's length, and with the line's end added the next line's place
-line-at : (s : List ℕ) (n : ℕ) → contentLen s ≡ n → lineEnd s ≡ record { content = n; next = n + endLen (drop n s) }
-unfolding lineEnd
-line-at s n e = rw e
-
-pub seek-start : (s : List ℕ) → Seeking s 0
-seek-start s = record { within = omega arith; left = omega arith }
-
-module _ {s : List ℕ} {i : ℕ} (k : Seeking s i) where
-  module _ {n : ℕ} (h : i < length s) (e : n ≡ endLen (drop i s)) where
-    pub seek-more : n ≤ 0 → Seeking s (i + 1)
-    seek-more z = record { within = omega arith; left = omega (arith, content-more s i h (omega arith)) }
-
-    pub seek-stop : 0 < n → record { content = i; next = i + n } ≡ lineEnd s
-    seek-stop z = rw e (sym (line-at s i (omega (arith, content-stop s i h (omega arith)))))
-
-    pub seek-fits : length s < 2 ^ 64 → Fits w64 (i + n)
-    seek-fits f = omega (arith, end-le (drop i s), length-drop i s)
-
-  pub seek-over : length s ≤ i → record { content = i; next = i } ≡ lineEnd s
-  unfolding endLen
-  seek-over h =
-      let z : i + 0 ≡ i = omega arith in
-      let f = line-at s i (omega (arith, content-over s i h)) in
-      sym (rw (at-end s i h, z) at f)
+    go : (t q : Bool) (u : List ℕ) → cond t 1 (cond (q && begins 10 u) 2 0) ≤ suc (length u)
+    go true q u = omega arith
+    go false false u = omega arith
+    go false true [] = omega arith
+    go false true (c ∷ u) = at-most (eqb c 10)
+      where
+        at-most : (t : Bool) → cond t 2 0 ≤ suc (suc (length u))
+        at-most true = omega arith
+        at-most false = omega arith
 
 -- a line's content lies in the part, and the next line begins behind it
 pub content-le : (s : List ℕ) → contentLen s ≤ length s

@@ -2,7 +2,7 @@
 use Prim.Native.Nat.{ℕ, zero, suc, _+_, _≤_, _<_}
 use mathlib.Core.Path.{_≡_, refl, sym, ap, subst, _∙_}
 use mathlib.Core.List.{List, [], _∷_, _++_}
-use mathlib.Core.Bool.{Bool, true, false, cond, not}
+use mathlib.Core.Bool.{Bool, true, false, cond, not, _&&_, and-false, false≢true}
 use native.Mathlib.Nat.{add-zero}
 use native.Mathlib.Omega.{arith}
 use borrow.Author.Tests.{eqb-true, not-true}
@@ -11,30 +11,55 @@ use lib.ListN.{length, take, drop, length-drop, length-append, take-append-drop}
 use lib.Seq.{drop-append-seam, take-append-seam, take-all, drop-drop, length-take-le}
 use Rattle.basics.proofs.Lists.{at-end}
 use Rattle.law.specs.Bytes as by
-use Rattle.law.specs.Bytes.{inLine, All}
+use Rattle.law.specs.Bytes.{inLine, begins, endsIn, All}
 use Rattle.text.specs.Lines.{endLen, contentLen, lineEnd, linesOf}
-use Rattle.law.specs.Lines.{End, by-10, File, none, last, next, endBytes, placeBehind}
+use Rattle.law.specs.Lines.{End, by-10, by-13-10, File, none, last, next, endBytes, placeBehind}
 use Rattle.text.proofs.LineLaws.{content-le, lines-none, lines-first}
 
--- a line's end is some bytes, and ends what stands in front of a line as well as the line
+-- a line's end is some bytes, and ends a line without its first byte too
 pub end-some : {l e : List ℕ} → End l e → 0 < length e
-end-some by-10 = omega arith
-
-further : {b : ℕ} {l e : List ℕ} → End l e → End (b ∷ l) e
-further by-10 = by-10
+end-some (by-10 h) = omega arith
+end-some by-13-10 = omega arith
 
 fewer : {b : ℕ} {l e : List ℕ} → End (b ∷ l) e → End l e
-fewer by-10 = by-10
+unfolding endsIn
+fewer {l = []} (by-10 h) = by-10 refl
+fewer {l = c ∷ l} (by-10 h) = by-10 h
+fewer by-13-10 = by-13-10
+
+-- how long it is
+pub end-long : {l e : List ℕ} → End l e → (s : List ℕ) → endLen (e ++ s) ≡ length e
+unfolding endLen begins
+end-long (by-10 h) s = refl
+end-long by-13-10 s = refl
+
+pub end-bytes : {l e : List ℕ} → End l e → (s : List ℕ) → endBytes (e ++ s) ≡ length e
+unfolding endBytes
+end-bytes (by-10 h) s = refl
+end-bytes by-13-10 s = refl
+
+-- no line ends at a byte of a line, unless it is 13 before 10
+pub no-end : (b : ℕ) (s : List ℕ) → inLine b ≡ true → (eqb b 13 && begins 10 s) ≡ false → endLen (b ∷ s) ≡ 0
+unfolding endLen
+no-end b s h e = rw (not-true (eqb b 10) h, e)
 
 -- a line's content holds no byte that ends a line
-content-all : (s : List ℕ) → All inLine (take (contentLen s) s)
-unfolding contentLen endLen
-content-all [] = by.none
-content-all (b ∷ s) = go (eqb b 10) refl (content-all s)
+passed : (b : ℕ) (s : List ℕ) → ltb 0 (endLen (b ∷ s)) ≡ false → inLine b ≡ true
+unfolding endLen
+passed b s h = go (eqb b 10) h
   where
-    go : (t : Bool) → eqb b 10 ≡ t → All inLine (take (contentLen s) s) → All inLine (take (cond (ltb 0 (cond t 1 0)) 0 (suc (contentLen s))) (b ∷ s))
+    go : (t : Bool) → ltb 0 (cond t 1 (cond (eqb b 13 && begins 10 s) 2 0)) ≡ false → not t ≡ true
+    go true h = sym h
+    go false h = refl
+
+pub content-all : (s : List ℕ) → All inLine (take (contentLen s) s)
+unfolding contentLen
+content-all [] = by.none
+content-all (b ∷ s) = go (ltb 0 (endLen (b ∷ s))) refl (content-all s)
+  where
+    go : (t : Bool) → ltb 0 (endLen (b ∷ s)) ≡ t → All inLine (take (contentLen s) s) → All inLine (take (cond t 0 (suc (contentLen s))) (b ∷ s))
     go true h a = by.none
-    go false h a = by.one (ap not h) a
+    go false h a = by.one (passed b s h) a
 
 -- what ends the line l, and what stands behind its end, where u stands behind l
 pub record Ended (l u : List ℕ) : Type 0 where
@@ -43,39 +68,73 @@ pub record Ended (l u : List ℕ) : Type 0 where
   pub ends : End l by
   pub is : u ≡ by ++ rest
 
+ends-here : (b : ℕ) (s : List ℕ) → ltb 0 (endLen (b ∷ s)) ≡ true → Ended [] (b ∷ s)
+unfolding endLen begins endsIn
+ends-here b s h = go (eqb b 10) refl (eqb b 13) refl s h
+  where
+    go : (t : Bool) → eqb b 10 ≡ t → (q : Bool) → eqb b 13 ≡ q → (u : List ℕ) → ltb 0 (cond t 1 (cond (q && begins 10 u) 2 0)) ≡ true → Ended [] (b ∷ u)
+    go true e q f u h = record { by = 10 ∷ []; rest = u; ends = by-10 refl; is = rw (eqb-true b 10 e) }
+    go false e false f u h = absurd (false≢true h)
+    go false e true f [] h = absurd (false≢true h)
+    go false e true f (c ∷ u) h = feed (eqb c 10) refl h
+      where
+        feed : (r : Bool) → eqb c 10 ≡ r → ltb 0 (cond r 2 0) ≡ true → Ended [] (b ∷ c ∷ u)
+        feed true g h = record { by = 13 ∷ 10 ∷ []; rest = u; ends = by-13-10; is = rw (eqb-true b 13 f, eqb-true c 10 g) }
+        feed false g h = absurd (false≢true h)
+
+-- what ends a line ends it with a byte before it at which no line ends
+further : {l e : List ℕ} (b : ℕ) (u : List ℕ) → ltb 0 (endLen (b ∷ (l ++ (e ++ u)))) ≡ false → End l e → End (b ∷ l) e
+unfolding endLen begins endsIn
+further {l = []} b u h (by-10 k) = go (eqb b 10) (eqb b 13) refl h
+  where
+    go : (t q : Bool) → eqb b 13 ≡ q → ltb 0 (cond t 1 (cond (q && true) 2 0)) ≡ false → End (b ∷ []) (10 ∷ [])
+    go true q f h = absurd (false≢true (sym h))
+    go false true f h = absurd (false≢true (sym h))
+    go false false f h = by-10 f
+further {l = c ∷ l} b u h (by-10 k) = by-10 k
+further b u h by-13-10 = by-13-10
+
 -- what stands behind a line's content, if anything does, ends it
 pub content-ends : (s : List ℕ) → 0 < length (drop (contentLen s) s) → Ended (take (contentLen s) s) (drop (contentLen s) s)
-unfolding contentLen endLen
+unfolding contentLen
 content-ends [] h = absurd (omega arith)
-content-ends (b ∷ s) h = go (eqb b 10) refl h (content-ends s)
+content-ends (b ∷ s) h = go (ltb 0 (endLen (b ∷ s))) refl h (content-ends s)
   where
     upTo : Bool → ℕ
-    upTo q = cond (ltb 0 (cond q 1 0)) 0 (suc (contentLen s))
+    upTo q = cond q 0 (suc (contentLen s))
 
-    go : (q : Bool) → eqb b 10 ≡ q → 0 < length (drop (upTo q) (b ∷ s)) → (0 < length (drop (contentLen s) s) → Ended (take (contentLen s) s) (drop (contentLen s) s))
+    go : (q : Bool) → ltb 0 (endLen (b ∷ s)) ≡ q → 0 < length (drop (upTo q) (b ∷ s)) → (0 < length (drop (contentLen s) s) → Ended (take (contentLen s) s) (drop (contentLen s) s))
         → Ended (take (upTo q) (b ∷ s)) (drop (upTo q) (b ∷ s))
-    go true e h ih = record { by = 10 ∷ []; rest = s; ends = by-10; is = rw (eqb-true b 10 e) }
-    go false e h ih = let w = ih h in record { by = w .by; rest = w .rest; ends = further (w .ends); is = w .is }
+    go true e h ih = ends-here b s e
+    go false e h ih =
+        let w = ih h in
+        let f : s ≡ take (contentLen s) s ++ (w .by ++ w .rest) = sym (take-append-drop (contentLen s) s) ∙ ap (λ (u : List ℕ). take (contentLen s) s ++ u) (w .is) in
+        let g : ltb 0 (endLen (b ∷ (take (contentLen s) s ++ (w .by ++ w .rest)))) ≡ false = ap (λ (u : List ℕ). ltb 0 (endLen (b ∷ u))) (sym f) ∙ e in
+        record { by = w .by; rest = w .rest; ends = further b (w .rest) g (w .ends); is = w .is }
 
--- how long it is
-pub end-long : {l e : List ℕ} → End l e → (s : List ℕ) → endLen (e ++ s) ≡ length e
-unfolding endLen
-end-long by-10 s = refl
+-- no line ends inside of a line
+inside-10 : {l : List ℕ} → All inLine l → begins 10 l ≡ false
+unfolding begins
+inside-10 by.none = refl
+inside-10 (by.one {b} h a) = not-true (eqb b 10) h
 
-pub end-bytes : {l e : List ℕ} → End l e → (s : List ℕ) → endBytes (e ++ s) ≡ length e
-unfolding endBytes
-end-bytes by-10 s = refl
+inside-13 : {b : ℕ} {l e : List ℕ} (s : List ℕ) → All inLine l → End (b ∷ l) e → (eqb b 13 && begins 10 (l ++ (e ++ s))) ≡ false
+unfolding begins endsIn
+inside-13 s by.none (by-10 h) = rw h
+inside-13 {b} s by.none by-13-10 = and-false (eqb b 13)
+inside-13 {b} s (by.one {b = c} h a) k = rw (not-true (eqb c 10) h) (and-false (eqb b 13))
 
 -- the content of a line that is made
 content-last : {l : List ℕ} → All inLine l → contentLen l ≡ length l
-unfolding contentLen endLen
+unfolding contentLen
 content-last by.none = refl
-content-last (by.one {b} h a) = rw (not-true (eqb b 10) h) (ap suc (content-last a))
+content-last (by.one {b} {s} h a) = rw (no-end b s h (rw (inside-10 a) (and-false (eqb b 13)))) (ap suc (content-last a))
 
 content-next : {l e : List ℕ} (s : List ℕ) → All inLine l → End l e → contentLen (l ++ (e ++ s)) ≡ length l
-unfolding contentLen endLen
-content-next s by.none by-10 = refl
-content-next s (by.one {b} h a) k = rw (not-true (eqb b 10) h) (ap suc (content-next s a (fewer k)))
+unfolding contentLen endLen begins
+content-next s by.none (by-10 h) = refl
+content-next s by.none by-13-10 = refl
+content-next {e = e} s (by.one {b = b} {s = l} h a) k = rw (no-end b (l ++ (e ++ s)) h (inside-13 s a k)) (ap suc (content-next s a (fewer k)))
 
 -- the first line of a file, by what stands behind its content
 lines-over : (s : List ℕ) → 0 < length s → drop (contentLen s) s ≡ [] → linesOf s ≡ s ∷ []

@@ -1,10 +1,8 @@
 // Bytes and lines of a file; nothing of IDF. Every other layer reads bytes through this one.
 ghost use mathlib.Core.Path.{_≡_};
-ghost use Prim.Native.Nat.{_<_};
-ghost use lib.ListN.{length, drop};
 ghost use Rattle.text.specs.Bytes.{classOf};
 ghost use Rattle.law.specs.Bytes.{permitted, begins, allOf};
-ghost use Rattle.text.specs.Lines.{endLen, lineEnd};
+ghost use Rattle.text.specs.Lines.{lineFeed, lineEnd};
 
 // The class of a byte. Byte 10 is forbidden: it never stands inside a line.
 pub enum ByteClass {
@@ -51,12 +49,18 @@ pub fn clean(line: &[u8]) -> bool
     good
 }
 
-// How many bytes end a line at a place: one at byte 10, else none.
-fn end_len(s: &[u8], at: usize) -> usize
-    requires { ⌜ at < length (now s) ⌝ }
-    ensures { λ r. ⌜ r ≡ endLen (drop at (now (s .entry))) ⌝ }
+// How many bytes stand before the first byte 10, or before the end.
+fn line_feed(s: &[u8]) -> usize
+    ensures { λ r. ⌜ r ≡ lineFeed (now (s .entry)) ⌝ }
 {
-    if s[at] == 10 { 1 } else { 0 }
+    let mut i = 0;
+    while i < s.len() {
+        if s[i] == 10 {
+            return i;
+        }
+        i += 1;
+    }
+    i
 }
 
 // Where a line's content ends and where the next line begins, counted from the line's first byte.
@@ -65,24 +69,33 @@ pub struct LineEnd {
     pub next: usize,
 }
 
-// The end of the first line of a part of a file.
+// The end of the first line of a part of a file. A 13 is looked for once a line, behind the loop that goes over its bytes.
 pub fn line_end(s: &[u8]) -> LineEnd
     ensures { λ r. ⌜ r ≡ lineEnd (now (s .entry)) ⌝ }
 {
-    let mut i = 0;
-    while i < s.len() {
-        let n = end_len(s, i);
-        if 0 < n {
-            return LineEnd {
-                content: i,
-                next: i + n,
-            };
-        }
-        i += 1;
+    let i = line_feed(s);
+    if s.len() <= i {
+        return LineEnd {
+            content: i,
+            next: i,
+        };
+    }
+    let next = i + 1;
+    if i == 0 {
+        return LineEnd {
+            content: i,
+            next: next,
+        };
+    }
+    if s[i - 1] == 13 {
+        return LineEnd {
+            content: i - 1,
+            next: next,
+        };
     }
     LineEnd {
         content: i,
-        next: i,
+        next: next,
     }
 }
 

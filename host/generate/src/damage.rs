@@ -39,7 +39,7 @@ fn damage(random: &mut Random, file: &mut Vec<u8>) {
         2 => drop(file.drain(at..end(at, 1, file))),
         3 => file.truncate(at),
         4 => file.insert(at, random.pick(b"\x80\xA0\xE9\xFF")),
-        5 => file.insert(line_at(file, at).end, b'\r'),
+        5 => put_return(random, file, at),
         6 => drop_line(file, at),
         7 => double_lines(file, line_at(file, at)),
         8 => swap_lines(random, file, at),
@@ -68,6 +68,28 @@ fn line_at(file: &[u8], at: usize) -> Range<usize> {
     let start = file[..at].iter().rposition(|&byte| byte == b'\n').map_or(0, |place| place + 1);
     let length = file[start..].iter().position(|&byte| byte == b'\n');
     start..length.map_or(file.len(), |length| start + length)
+}
+
+/// Puts a byte 13 to the end of a line or of the file, into a line, into a comment, or behind a quote.
+fn put_return(random: &mut Random, file: &mut Vec<u8>, at: usize) {
+    let line = line_at(file, at);
+    match random.below(6) {
+        0 => file.insert(line.end, b'\r'),
+        1 => drop(file.splice(line.end..line.end, *b"\r\r")),
+        2 => file.push(b'\r'),
+        3 => file.insert(at, b'\r'),
+        4 => drop(file.splice(line.start..line.start, *b"#\r x\r\r\n")),
+        _ => quote_last_field(file, line),
+    }
+}
+
+/// Puts the last field of a line into quotes, and one byte 13 behind them.
+fn quote_last_field(file: &mut Vec<u8>, line: Range<usize>) {
+    let last = file[line.clone()].iter().rposition(|&byte| byte != b'\r');
+    let end = last.map_or(line.start, |last| line.start + last + 1);
+    let start = field_at(file, end).start;
+    let quoted = [b"\"", &file[start..end], b"\"\r"].concat();
+    file.splice(start..line.end, quoted);
 }
 
 /// The lines around a place from one that begins with a period to the next such, if both stand.
@@ -136,7 +158,7 @@ fn extend_field(random: &mut Random, file: &mut Vec<u8>, at: usize) {
 
 /// The field around a byte, quotes not looked at; nothing between two spaces is a field too.
 fn field_at(file: &[u8], at: usize) -> Range<usize> {
-    let parts = |byte: &u8| matches!(byte, b' ' | b'\n');
+    let parts = |byte: &u8| matches!(byte, b' ' | b'\r' | b'\n');
     let start = file[..at].iter().rposition(parts).map_or(0, |place| place + 1);
     let length = file[start..].iter().position(parts);
     start..length.map_or(file.len(), |length| start + length)

@@ -129,13 +129,14 @@ fn library_with_entries(random: &mut Random, size: usize) -> (Vec<u8>, Vec<Entry
     (finish(pen), entries)
 }
 
-/// The file, perhaps without the byte 10 of its last line.
+/// The file, perhaps without the end of its last line.
 fn finish(mut pen: Pen) -> Vec<u8> {
     pen.free_lines();
     let mut out = pen.out;
-    let ends_bare = out.len() > 1 && out[out.len() - 2] != b'\n';
+    let length = out.strip_suffix(b"\r\n").or(out.strip_suffix(b"\n")).map_or(0, <[u8]>::len);
+    let ends_bare = length > 0 && out[length - 1] != b'\n';
     if ends_bare && pen.random.one_in(8) {
-        out.pop();
+        out.truncate(length);
     }
     out
 }

@@ -30,3 +30,26 @@ pub fn file(seed: u64) -> Vec<u8> {
         damaged(&mut random, &whole)
     }
 }
+
+/// The Windows copy of a file: a byte 13 put before each byte 10 that has none.
+pub fn windows_copy(file: &[u8]) -> Vec<u8> {
+    let mut copy = Vec::with_capacity(file.len() + file.len() / 8);
+    for &byte in file {
+        if byte == b'\n' && copy.last() != Some(&b'\r') {
+            copy.push(b'\r');
+        }
+        copy.push(byte);
+    }
+    copy
+}
+
+#[cfg(test)]
+mod tests {
+    use super::*;
+
+    #[test]
+    fn a_windows_copy_has_one_13_before_each_10() {
+        assert_eq!(windows_copy(b"a\n\nb\r\n\r\r\nc"), b"a\r\n\r\nb\r\n\r\r\nc");
+        assert_eq!(windows_copy(b""), b"");
+    }
+}

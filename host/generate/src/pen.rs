@@ -3,20 +3,34 @@
 use crate::random::Random;
 use crate::values::{self, ONE};
 
+/// How the lines of a file end: with byte 10, with bytes 13 and 10, or by chance with either.
+#[derive(Clone, Copy)]
+enum Ends {
+    Plain,
+    Windows,
+    Mixed,
+}
+
 /// A file being written, and the chances by which its spelling varies.
 pub struct Pen<'r> {
     /// Where chances come from.
     pub random: &'r mut Random,
     /// What is written so far.
     pub out: Vec<u8>,
+    ends: Ends,
     line: usize,
     first: bool,
 }
 
 impl<'r> Pen<'r> {
-    /// An empty file.
+    /// An empty file; in most files every line ends with byte 10.
     pub fn new(random: &'r mut Random) -> Self {
-        Pen { random, out: Vec::new(), line: 0, first: true }
+        let ends = match random.below(8) {
+            0 => Ends::Windows,
+            1 => Ends::Mixed,
+            _ => Ends::Plain,
+        };
+        Pen { random, out: Vec::new(), ends, line: 0, first: true }
     }
 
     /// Writes a keyword in a mixture of letter case.
@@ -104,22 +118,32 @@ impl<'r> Pen<'r> {
         if self.random.one_in(10) {
             self.spaces(3);
         }
-        self.out.push(b'\n');
-        self.line = self.out.len();
+        self.line_end();
         self.first = true;
     }
 
     /// Writes comments and blank lines, or none.
     pub fn free_lines(&mut self) {
         while self.random.one_in(6) {
-            match self.random.below(3) {
+            match self.random.below(4) {
                 0 => self.spaces(4),
                 1 => self.out.extend_from_slice(b"# a comment"),
+                2 => self.out.extend_from_slice(b"# a byte 13\r"),
                 _ => self.out.extend_from_slice(b"#\t\"\r\x00\x7F.HEADER"),
             }
-            self.out.push(b'\n');
-            self.line = self.out.len();
+            self.line_end();
         }
+    }
+
+    /// Writes the bytes that end a line.
+    fn line_end(&mut self) {
+        let windows = match self.ends {
+            Ends::Plain => false,
+            Ends::Windows => true,
+            Ends::Mixed => self.random.one_in(2),
+        };
+        self.out.extend_from_slice(if windows { b"\r\n" } else { b"\n" });
+        self.line = self.out.len();
     }
 
     /// Writes the spaces before a field.

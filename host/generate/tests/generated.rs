@@ -3,7 +3,7 @@
 
 use std::collections::BTreeSet;
 
-use generate::{changed, file, matched, Random};
+use generate::{changed, file, matched, windows_copy, Random};
 use second::{canon, check, judge, read, rows, same, write, Reader, Reply};
 
 const FILES: u64 = 20_000;
@@ -16,6 +16,22 @@ fn whole_files_are_accepted_and_hold_every_kind_of_line() {
         kinds.extend(list.iter().map(|row| row[0]));
     }
     assert_eq!(kinds.len(), 58, "{kinds:?}");
+}
+
+#[test]
+fn whole_files_end_their_lines_in_each_way() {
+    let (mut plain, mut windows, mut mixed) = (0, 0, 0);
+    for seed in (0..FILES).step_by(2) {
+        let file = file(seed);
+        let ends = file.iter().filter(|&&byte| byte == b'\n').count();
+        match file.windows(2).filter(|pair| pair == b"\r\n").count() {
+            0 => plain += 1,
+            count if count == ends => windows += 1,
+            _ => mixed += 1,
+        }
+    }
+    println!("plain {plain}, Windows {windows}, mixed {mixed}");
+    assert!(plain > windows + mixed && windows > 500 && mixed > 500);
 }
 
 #[test]
@@ -34,6 +50,7 @@ fn replies_agree_with_each_other() {
     for seed in 0..FILES {
         let file = file(seed);
         let reply = check(&file);
+        assert_eq!(check(&windows_copy(&file)), reply, "{seed}");
         match reply.number {
             0 => accepted(seed, &file, reply.count),
             _ => refused(seed, &file, reply),
@@ -56,7 +73,10 @@ fn accepted(seed: u64, file: &[u8], count: u64) {
     let again = rows(&text).expect("canonical text is accepted");
     assert_eq!(meaning(&list, file), meaning(&again, &text), "{seed}");
     assert_eq!(canon(&text).as_ref(), Ok(&text), "{seed}");
-    assert_eq!(same(file, &text), (Reply { number: 0, line: 0, count: 1 }, 0), "{seed}");
+    assert!(!text.contains(&b'\r'), "{seed}");
+    for other in [&text, &windows_copy(file)] {
+        assert_eq!(same(file, other), (Reply { number: 0, line: 0, count: 1 }, 0), "{seed}");
+    }
 
     let mut out = vec![b'?'; text.len() + 3];
     assert_eq!(write(&list.concat(), file, &mut out).count, text.len() as u64, "{seed}");

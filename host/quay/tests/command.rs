@@ -90,7 +90,12 @@ fn rows_are_ten_numbers_a_line() {
 
 #[test]
 fn canonical_text_is_that_of_the_second_reader() {
-    for name in ["board_dated.emn", "panel_dated.emn", "shelf/boards/main_respaced.emn"] {
+    for name in [
+        "board_dated.emn",
+        "panel_dated.emn",
+        "shelf/boards/main_respaced.emn",
+        "shelf/boards/main_windows.emn",
+    ] {
         assert_eq!(Ok(run(&["canon", name]).stdout), second::canon(&sample(name)), "{name}");
     }
     assert_eq!(said("canon --plain library.emp"), ("9 2 0\n".to_string(), 1));
@@ -120,6 +125,7 @@ fn same_tells_copies_from_revisions() {
     let table = [
         ("shelf/boards/main_copy.emn", "0 0 1 0\n", 0),
         ("shelf/boards/main_respaced.emn", "0 0 1 0\n", 0),
+        ("shelf/boards/main_windows.emn", "0 0 1 0\n", 0),
         ("shelf/boards/main_rev_b.emn", "0 0 0 0\n", 1),
         ("shelf/boards/main_torn.emn", "6 120 0 2\n", 1),
         ("/dev/null", "13 1 0 2\n", 1),
@@ -192,8 +198,8 @@ fn a_full_disk_is_told() {
 #[test]
 fn shelf_in_words() {
     let expected = "\
-shelf: 9 IDF files, 43,124 bytes
-       7 whole
+shelf: 10 IDF files, 52,867 bytes
+       8 whole
        2 refused
        1 passed over by name
 
@@ -205,8 +211,9 @@ The same, record by record:
   boards/main.emn: 215 records
     boards/main_copy.emn: an exact copy, 9,528 bytes
     boards/main_respaced.emn: other bytes, the same records, 5,638 bytes
+    boards/main_windows.emn: other bytes, the same records, 9,743 bytes
 
-Keeping the first of each would free 15,166 bytes. Nothing was deleted.
+Keeping the first of each would free 24,909 bytes. Nothing was deleted.
 ";
     let output = run(&["shelf", "shelf"]);
     assert_eq!((text(&output.stdout).as_str(), output.status.code()), (expected, Some(0)));
@@ -220,7 +227,7 @@ fn shelf_in_json() {
     assert_eq!(code, 0);
     assert_eq!(
         (&value["totals"]["whole"], &value["totals"]["bytes_freed"]),
-        (&7.into(), &15166.into())
+        (&8.into(), &24909.into())
     );
     let group = &value["same"][0];
     let others: Vec<&Value> = group["others"].as_array().expect("a list").iter().collect();
@@ -247,7 +254,7 @@ fn shelf_as_a_page() {
     let page = fs::read_to_string(page).expect("a page");
     let file = sample("shelf/boards/main_respaced.emn");
     for part in [
-        "<dt>whole</dt><dd>7</dd>".to_string(),
+        "<dt>whole</dt><dd>8</dd>".to_string(),
         "<td>boards/main_torn.emn</td><td class=\"number\">120</td><td class=\"number\">6</td>"
             .to_string(),
         "<td>0 0 1 0</td>".to_string(),
@@ -287,16 +294,18 @@ fn shelf_takes_odd_names_and_unreadable_places() {
 #[test]
 fn fields_with_their_places() {
     let file = folder("fields").join("lines");
-    fs::write(&file, b"a \"b c\" #x\n# note\n\tz\nq\"\n").expect("a file");
+    fs::write(&file, b"a \"b c\" #x\r\n# note\r\n\tz\nq\"\nd\r\n").expect("a file");
     let name = file.to_str().expect("a name");
     let (words, code) = said(&format!("fields {name}"));
     let expected = format!(
         "1:0+1 a\n1:3+3 b c\n1:8+2 #x\n\
-        {name}:3: 3 forbidden byte: a tab, a carriage return or another control byte\n\
-        {name}:4: 4 broken quoting: a quote inside a bare field, or none at a quoted field's end\n"
+        {name}:3: 3 forbidden byte: a tab or another control byte; a carriage return may stand only before a line feed, \
+        or in a comment\n\
+        {name}:4: 4 broken quoting: a quote inside a bare field, or none at a quoted field's end\n\
+        5:26+1 d\n"
     );
     assert_eq!((words, code), (expected, 1));
-    let plain = "0 0 3 0 1 3 3 8 2\n0 0 0\n3 3 0\n4 4 0\n13 5 0\n";
+    let plain = "0 0 3 0 1 3 3 8 2\n0 0 0\n3 3 0\n4 4 0\n0 0 1 26 1\n13 6 0\n";
     assert_eq!(said(&format!("fields --plain {name}")), (plain.to_string(), 1));
     assert_eq!(said("fields --plain board.emn").1, 0);
 }

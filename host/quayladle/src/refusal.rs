@@ -101,7 +101,9 @@ impl Reason {
         match self {
             Reason::TooLarge => "a file has at most 16,777,216 bytes",
             Reason::FewRows => "the lent slice holds fewer rows than the file has",
-            Reason::Byte => "a tab, a carriage return or another control byte",
+            Reason::Byte => {
+                "a tab or another control byte; a carriage return may stand only before a line feed, or in a comment"
+            }
             Reason::Quoting => "a quote inside a bare field, or none at a quoted field's end",
             Reason::Place => {
                 "no such line may stand here; or an unknown keyword, or a comment or blank line inside a section"

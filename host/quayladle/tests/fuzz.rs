@@ -20,8 +20,10 @@ const PANEL: &[u8] = include_bytes!("../../../samples/panel_dated.emn");
 const LIBRARY: &[u8] = include_bytes!("../../../samples/shelf/libraries/connectors.emp");
 
 /// Pieces of files; blind changes alone would seldom make a keyword.
-const PIECES: [&[u8]; 29] = [
+const PIECES: [&[u8]; 31] = [
     b"\n",
+    b"\r",
+    b"\r\n",
     b" ",
     b"\"",
     b"#",

@@ -5,9 +5,10 @@ mod common;
 use std::path::PathBuf;
 
 use common::{agreed, agreed_on_both, agreed_on_rows};
+use generate::windows_copy;
 
-/// The samples and the number that samples/NOTES.md lists for each.
-const SAMPLES: [(&str, u64); 7] = [
+/// The samples and the number that the notes beside them list for each.
+const SAMPLES: [(&str, u64); 8] = [
     ("panel.emn", 9),
     ("board.emn", 9),
     ("library.emp", 9),
@@ -15,6 +16,7 @@ const SAMPLES: [(&str, u64); 7] = [
     ("board_dated.emn", 0),
     ("library_dated.emp", 9),
     ("library_dated_word.emp", 0),
+    ("shelf/boards/main_windows.emn", 0),
 ];
 
 fn sample(name: &str) -> Vec<u8> {
@@ -42,8 +44,10 @@ fn pairs_of_samples() {
 fn every_sample_torn_at_every_byte() {
     for name in ["panel_dated.emn", "library_dated_word.emp"] {
         let file = sample(name);
-        for length in 0..file.len() {
-            agreed(format_args!("{name} up to {length}"), &file[..length]);
+        for file in [&file, &windows_copy(&file)] {
+            for length in 0..file.len() {
+                agreed(format_args!("{name} up to {length} of {}", file.len()), &file[..length]);
+            }
         }
     }
 }

@@ -8,7 +8,7 @@ pub fn permitted(byte: u8) -> bool {
     matches!(byte, 32..=126 | 128..=255)
 }
 
-/// One line of a file, without the byte 10 that ends it.
+/// One line of a file, without the bytes that end it: 10, or 13 and 10.
 #[derive(Clone, Copy)]
 pub struct Line<'a> {
     /// The line's number, from 1.
@@ -52,9 +52,40 @@ impl<'a> Iterator for Lines<'a> {
     fn next(&mut self) -> Option<Line<'a>> {
         let start = self.next;
         let rest = self.file.get(start..).filter(|rest| !rest.is_empty())?;
-        let length = rest.iter().position(|&byte| byte == 10).unwrap_or(rest.len());
-        self.next = start + length + 1;
+        let (bytes, whole) = first_line(rest);
+        self.next = start + whole;
         self.taken += 1;
-        Some(Line { number: self.taken, start, bytes: &rest[..length] })
+        Some(Line { number: self.taken, start, bytes })
+    }
+}
+
+/// The bytes of the first line, and how many it has with its end. A byte 13 belongs to the end only
+/// directly before a byte 10.
+fn first_line(rest: &[u8]) -> (&[u8], usize) {
+    match rest.iter().position(|&byte| byte == 10) {
+        None => (rest, rest.len()),
+        Some(end) => (rest[..end].strip_suffix(&[13]).unwrap_or(&rest[..end]), end + 1),
+    }
+}
+
+#[cfg(test)]
+mod tests {
+    use super::*;
+
+    /// Where each line of a file starts, and its bytes.
+    fn lines(file: &[u8]) -> Vec<(usize, &[u8])> {
+        Lines::of(file).map(|line| (line.start, line.bytes)).collect()
+    }
+
+    #[test]
+    fn a_line_is_without_its_end() {
+        assert_eq!(lines(b"a\nb\r\n\r\nc"), [(0, &b"a"[..]), (2, b"b"), (5, b""), (7, b"c")]);
+        assert_eq!(lines(b"\r\n"), [(0, &b""[..])]);
+    }
+
+    #[test]
+    fn only_the_byte_13_before_a_byte_10_belongs_to_the_end() {
+        assert_eq!(lines(b"a\r\r\nb\r \n"), [(0, &b"a\r"[..]), (4, b"b\r ")]);
+        assert_eq!(lines(b"a\r\nb\r"), [(0, &b"a"[..]), (3, b"b\r")]);
     }
 }

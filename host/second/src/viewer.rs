@@ -61,3 +61,18 @@ fn count_fields(line: Line) -> Result<usize, Fault> {
     }
     Fields::of(line)?.try_fold(0, |count, field| field.map(|_| count + 1))
 }
+
+#[cfg(test)]
+mod tests {
+    use super::*;
+
+    #[test]
+    fn no_field_holds_a_byte_of_the_line_end() {
+        let mut reader = Reader::open(b"a \"b c\"\r\n\r\nd\r\n");
+        let mut room = [-1; 4];
+        assert_eq!((reader.next(&mut room), room), (Reply::done(2), [0, 1, 3, 3]));
+        assert_eq!((reader.next(&mut room), room), (Reply::done(0), [0, 1, 3, 3]));
+        assert_eq!((reader.next(&mut room), room), (Reply::done(1), [11, 1, 3, 3]));
+        assert_eq!(reader.next(&mut room), Reply::too_early(4));
+    }
+}

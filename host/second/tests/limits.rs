@@ -33,6 +33,17 @@ fn a_file_of_the_largest_size_is_judged() {
 }
 
 #[test]
+fn a_windows_copy_is_the_same_where_it_is_within_the_limit() {
+    for (size, verdict) in
+        [(LARGEST_FILE - 3, (reply(0, 0, 1), 0)), (LARGEST_FILE - 2, (reply(1, 0, 0), 2))]
+    {
+        let file = padded(size);
+        let lines: Vec<&[u8]> = file.split(|&byte| byte == b'\n').collect();
+        assert_eq!(same(&file, &lines.join(&b"\r\n"[..])), verdict, "{size}");
+    }
+}
+
+#[test]
 fn a_larger_file_is_refused_before_a_byte_is_seen() {
     let large = vec![9; LARGEST_FILE + 1];
     let mut room = [-1; 20];

@@ -38,6 +38,16 @@ fn judged_by_the_library() {
 }
 
 #[test]
+fn a_board_from_a_windows_seat_is_the_same() {
+    let (board, windows) =
+        (sample("shelf/boards/main.emn"), sample("shelf/boards/main_windows.emn"));
+    let lines: Vec<&[u8]> = board.split(|&byte| byte == b'\n').collect();
+    assert_eq!(windows, lines.join(&b"\r\n"[..]));
+    assert_eq!(same(&board, &windows), (reply(0, 0, 1), 0));
+    assert_eq!(canon(&board), canon(&windows));
+}
+
+#[test]
 fn canonical_text_means_the_same() {
     for name in ["panel_dated.emn", "board_dated.emn", "library_dated_word.emp"] {
         let file = sample(name);

@@ -1,44 +1,39 @@
--- `text::line_end` meets its contract: the loop passes bytes at which no line ends. Assumes nothing.
-use Prim.Native.Nat.{_-_}
+-- `text::line_end` meets its contract. Assumes nothing.
 use borrow.Author.Needs.{needs}
-use lib.ListN.{length}
-use Rattle.text.proofs.LineLaws.{Seeking, seek-start, seek-more, seek-stop, seek-fits, seek-over}
+use Rattle.text.proofs.LineFeeds.{line-over, line-two, line-one, line-empty}
 use Rattle.text.proofs.line_end.Statement.{statement}
 use Rattle.text.proofs.line_end.Tie as tie
 
-abbrev Inv-loop : tie.InvT-loop
-Inv-loop s i₀ i = Seeking s i
+ruleset laws = (line-over, line-two, line-one, line-empty, needs)
 
-abbrev μ-loop : tie.MeasureT-loop
-μ-loop s i₀ i = length s - i
+line-feed-requires : tie.Need-line-feed-requires
+line-feed-requires c κs = search laws
 
-ruleset laws = (seek-start, seek-more, seek-stop, seek-fits, seek-over, needs)
-
-loop-holds : tie.Need-loop-holds Inv-loop μ-loop
-loop-holds c = search laws
-
-end-len-requires : tie.Need-end-len-requires Inv-loop μ-loop
-end-len-requires c κs = search laws
-
-add-t6 : tie.Need-add-t6 Inv-loop μ-loop
-add-t6 c = search laws
-
-returns : tie.Need-returns Inv-loop μ-loop
+returns : tie.Need-returns
 returns c = search laws
 
-add-i : tie.Need-add-i Inv-loop μ-loop
-add-i c = search laws
+add-next : tie.Need-add-next
+add-next c = search laws
 
-loop-less : tie.Need-loop-less Inv-loop μ-loop
-loop-less c = search laws
-
-loop-again : tie.Need-loop-again Inv-loop μ-loop
-loop-again c = search laws
-
-returns-2 : tie.Need-returns-2 Inv-loop μ-loop
+returns-2 : tie.Need-returns-2
 returns-2 c = search laws
+
+sub-if3 : tie.Need-sub-if3
+sub-if3 c = search laws
+
+shared-slice-read-if3 : tie.Need-shared-slice-read-if3
+shared-slice-read-if3 c = search laws
+
+sub-t8 : tie.Need-sub-t8
+sub-t8 c = search laws
+
+returns-3 : tie.Need-returns-3
+returns-3 c = search laws
+
+returns-4 : tie.Need-returns-4
+returns-4 c = search laws
 
 pub line-end-spec : {M : Type 1} → statement M
 line-end-spec =
     tie.close
-    (tie.spec Inv-loop μ-loop loop-holds end-len-requires add-t6 returns add-i loop-less loop-again returns-2)
+    (tie.spec line-feed-requires returns add-next returns-2 sub-if3 shared-slice-read-if3 sub-t8 returns-3 returns-4)
