@@ -9,6 +9,7 @@ use crate::counts::One;
 /// What `--help` prints.
 pub const HELP: &str = "\
 Times the proved library against the second reader on boards, panels and libraries of 1, 4 and 16 MiB, and says which bounds are met.
+Checking their Windows copies, which have a 13 before each 10, is held against checking the files.
 
 Usage: tools/bench [OPTIONS]
 
@@ -20,7 +21,7 @@ Options:
   -h, --help           Print this
 
 The tables go to standard output, progress to standard error.
-Exit code: 0, met or not; 1 if the two answer differently or valgrind cannot count; 2 if the command line is wrong.
+Exit code: 0, met or not; 1 if the two answer differently, a file is refused or valgrind cannot count; 2 if the command line is wrong.
 ";
 
 /// What was asked for.

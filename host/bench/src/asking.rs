@@ -3,6 +3,9 @@
 use std::path::Path;
 use std::{fmt, fs, io};
 
+use generate::windows_copy;
+use second::Reply;
+
 use crate::files::{self, components_in, Placed};
 use crate::sheet::Sheet;
 
@@ -51,6 +54,11 @@ impl Operation {
     /// Every operation.
     pub const ALL: [Operation; 5] =
         [Operation::Check, Operation::Read, Operation::Write, Operation::Same, Operation::Judge];
+
+    /// Whether an answer is what every subject should get: done, and of two files to compare that they say the same.
+    pub fn is_done(self, answer: &Answer) -> bool {
+        answer[0] == 0 && (self != Operation::Same || answer[2] == 1)
+    }
 }
 
 impl fmt::Display for Operation {
@@ -118,12 +126,27 @@ impl Subject {
     }
 
     fn new(Sheet { file, copy, .. }: Sheet, library: Option<Sheet>) -> Subject {
-        let rows = second::rows(&file).expect("a made file is accepted").concat();
-        let text_len = second::canon(&file).expect("a made file's text is within the limit").len();
         let library = library.map(|sheet| sheet.file);
-        let accepted = library.iter().all(|library| second::check(library).number == 0);
-        assert!(accepted, "a made library is accepted");
-        Subject { file, copy, library, rows, text_len }
+        Subject::accepted(file, copy, library).expect("made files are accepted")
+    }
+
+    /// A subject of these files, unless the second reader refuses one of them.
+    fn accepted(file: Vec<u8>, copy: Vec<u8>, library: Option<Vec<u8>>) -> Result<Subject, Reply> {
+        let rows = second::rows(&file)?.concat();
+        let text_len = second::canon(&file)?.len();
+        if let Some(entries) = &library {
+            second::rows(entries)?;
+        }
+        Ok(Subject { file, copy, library, rows, text_len })
+    }
+
+    /// The subject with the Windows copy of each of its files; a refusal is said in words.
+    pub fn windows(&self) -> Result<Subject, String> {
+        let library = self.library.as_deref().map(windows_copy);
+        let (file, copy) = (windows_copy(&self.file), windows_copy(&self.copy));
+        Subject::accepted(file, copy, library).map_err(|Reply { number, line, .. }| {
+            format!("the second reader refuses it with {number} at line {line}")
+        })
     }
 
     /// Keeps the subject in a folder.
@@ -172,6 +195,16 @@ impl Subject {
         }
     }
 
+    /// The lines that an operation goes through; a text has as many as the file whose rows it says.
+    pub fn lines(&self, operation: Operation) -> usize {
+        let lines = |file: &[u8]| file.iter().filter(|&&byte| byte == b'\n').count();
+        match operation {
+            Operation::Check | Operation::Read | Operation::Write => lines(&self.file),
+            Operation::Same => lines(&self.file) + lines(&self.copy),
+            Operation::Judge => lines(&self.file) + lines(self.entries()),
+        }
+    }
+
     /// What an operation needs to be lent.
     pub fn lent(&self, operation: Operation) -> Lent {
         let (rows, text) = match operation {
@@ -204,7 +237,7 @@ impl Subject {
     }
 
     fn ask_second(&self, operation: Operation, lent: &mut Lent) -> Answer {
-        use second::{check, judge, read, same, write, Reply};
+        use second::{check, judge, read, same, write};
         let one = |reply: Reply| [reply.number, reply.line, reply.count, 0];
         let two = |(reply, which): (Reply, u64)| [reply.number, reply.line, reply.count, which];
         match operation {

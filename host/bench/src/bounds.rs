@@ -4,14 +4,17 @@ use crate::asking::Operation;
 use crate::special::Special;
 use crate::speeds::Speed;
 use crate::timing::Times;
+use crate::windows::Pair;
 
 /// The most that the proved library may take, as a multiple of the second reader's time.
 const RATIOS: [(Operation, f64); 3] =
     [(Operation::Check, 1.5), (Operation::Read, 2.0), (Operation::Write, 2.0)];
 /// The most that its time per byte may grow from the smallest size on.
 const GROWTH: f64 = 1.15;
+/// The most that `check` may take for a line of a Windows copy, as a multiple of what it takes for one of the file.
+const WINDOWS: f64 = 1.05;
 /// The most in special cases, by their letters.
-const SPECIALS: [(char, f64); 2] = [('a', 2.0), ('b', 3.0)];
+const SPECIALS: [(char, f64); 3] = [('a', 2.0), ('b', 3.0), ('e', WINDOWS)];
 
 /// Each bound in a line: whether it is met, and the worst figure with its file.
 pub fn lines(speeds: &[Speed], specials: &[Special], over: &str) -> Vec<String> {
@@ -35,6 +38,14 @@ pub fn lines(speeds: &[Speed], specials: &[Special], over: &str) -> Vec<String> 
         lines.push(line(&format!("special case {letter}, at most {most}"), most, figures, over));
     }
     lines
+}
+
+/// The bound on Windows copies in a line, by instructions.
+pub fn windows(pairs: &[Pair]) -> String {
+    let checks = pairs.iter().filter(|pair| pair.file.operation == Operation::Check);
+    let figures = checks.map(|pair| (pair.file.kind.sized(pair.file.size), Some(pair.ratios()[0])));
+    let what = format!("check of a Windows copy over the file's, for a line, at most {WINDOWS}");
+    line(&what, WINDOWS, figures, "not counted")
 }
 
 /// One bound over some figures; one that is missing was over the limit.

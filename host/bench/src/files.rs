@@ -158,6 +158,8 @@ mod tests {
         assert_eq!((reply.number, reply.count, which), (0, 1, 0));
         assert!(sheet.copy.len() <= sheet.file.len() && sheet.copy != sheet.file);
         assert_eq!(second::canon(&sheet.file).map(|text| text.len()), Ok(sheet.file.len()));
+        let (reply, which) = second::same(&sheet.file, &generate::windows_copy(&sheet.file));
+        assert_eq!((reply.number, reply.count, which), (0, 1, 0), "the Windows copy");
     }
 
     #[test]

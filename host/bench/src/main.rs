@@ -18,6 +18,7 @@ mod speeds;
 mod stacks;
 mod table;
 mod timing;
+mod windows;
 
 use std::process;
 

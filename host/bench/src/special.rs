@@ -1,4 +1,4 @@
-//! The second table: files on which a reader that looks names up one by one takes too long.
+//! The second table: files on which a reader that looks names up one by one takes too long, and Windows copies.
 
 use std::sync::Arc;
 use std::time::Duration;
@@ -12,6 +12,8 @@ use crate::timing::{Clock, Differs, Times};
 /// How many placements are judged by how many components in case b.
 const PLACEMENTS: usize = 50_000;
 const COMPONENTS: usize = 20_000;
+/// The size of the files in case e: there is room for their Windows copies.
+const COPIED: usize = 4 * MIB;
 
 /// One special case: what it takes, and that over what it is held against.
 pub struct Special {
@@ -28,11 +30,14 @@ pub struct Special {
 pub fn measured(clock: &mut Clock, speeds: &[Speed]) -> Result<Vec<Special>, Differs> {
     let judged = judging(clock)?;
     let crowded = crowded(clock)?;
+    let copied = Kind::ALL.into_iter().map(|kind| windows(clock, kind));
+    let copied = copied.collect::<Result<Vec<_>, _>>()?;
     let mut cases = Vec::new();
     cases.extend(against_board(speeds, Operation::Check, 'a'));
     cases.push(judged);
     cases.extend(against_board(speeds, Operation::Write, 'c'));
     cases.push(crowded);
+    cases.extend(copied);
     Ok(cases)
 }
 
@@ -108,6 +113,28 @@ fn crowded(clock: &mut Clock) -> Result<Special, Differs> {
             thousands(components)
         ),
         times: times[2],
+        proved: ratio(|times| times.proved),
+        second: ratio(|times| times.second),
+    })
+}
+
+/// Checking a Windows copy over checking the file, which has as many lines; the two are timed by turns.
+fn windows(clock: &mut Clock, kind: Kind) -> Result<Special, Differs> {
+    let name = format!("Windows copy of a {}", kind.sized(COPIED));
+    eprintln!("bench: making the {name}");
+    let pilots = [COPIED / 16, COPIED / 4].map(|size| Arc::new(kind.subject(size)));
+    let file = kind.subject(COPIED);
+    let copy = file.windows().map_err(|fault| Differs(format!("{name}: {fault}")))?;
+    let both = [file, copy].map(Arc::new);
+    let times =
+        clock.climb(&format!("{} of case e", kind.name()), Operation::Check, &pilots, &both)?;
+    let ratio = |time: fn(&Times) -> Option<Duration>| {
+        Some(time(&times[1])?.as_secs_f64() / time(&times[0])?.as_secs_f64())
+    };
+    Ok(Special {
+        letter: 'e',
+        what: format!("check the {name}; per line, over check of the file"),
+        times: times[1],
         proved: ratio(|times| times.proved),
         second: ratio(|times| times.second),
     })

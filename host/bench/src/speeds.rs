@@ -23,6 +23,9 @@ pub enum Kind {
 }
 
 impl Kind {
+    /// Every kind.
+    pub const ALL: [Kind; 3] = [Kind::Board, Kind::Panel, Kind::Library];
+
     /// Its name.
     pub fn name(self) -> &'static str {
         match self {
@@ -30,6 +33,11 @@ impl Kind {
             Kind::Panel => "panel",
             Kind::Library => "library",
         }
+    }
+
+    /// A file of this kind and size in words.
+    pub fn sized(self, size: usize) -> String {
+        format!("{} of {} MiB", self.name(), size / MIB)
     }
 
     /// A file of this kind and size.
@@ -62,7 +70,7 @@ pub struct Speed {
 impl Speed {
     /// The file and its size in words.
     pub fn name(&self) -> String {
-        format!("{} of {} MiB", self.kind.name(), self.size / MIB)
+        self.kind.sized(self.size)
     }
 
     /// MiB in a second.
@@ -79,7 +87,7 @@ pub fn per_byte(time: Option<Duration>, bytes: usize) -> Option<f64> {
 /// Times every operation on every kind of file, at these sizes.
 pub fn measured(clock: &mut Clock, sizes: &[usize]) -> Result<Vec<Speed>, Differs> {
     let mut speeds = Vec::new();
-    for kind in [Kind::Board, Kind::Panel, Kind::Library] {
+    for kind in Kind::ALL {
         eprintln!("bench: making {} files", kind.name());
         let made = |size: &usize| Arc::new(kind.subject(*size));
         let pilots: Vec<_> = PILOTS.iter().map(made).collect();

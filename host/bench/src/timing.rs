@@ -170,8 +170,7 @@ impl Clock {
 /// Whether what was answered is an acceptance, and the same on both sides, with the same left in what was lent.
 fn agree(proved: Option<&Run>, second: Option<&Run>, operation: Operation) -> Result<(), String> {
     for Run { answer, .. } in proved.into_iter().chain(second) {
-        let accepted = answer[0] == 0 && (operation != Operation::Same || answer[2] == 1);
-        if !accepted {
+        if !operation.is_done(answer) {
             return Err(format!("answered {answer:?}, which is no acceptance"));
         }
     }
