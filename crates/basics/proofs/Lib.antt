@@ -2,4 +2,5 @@ pub mod Bools
 pub mod Lists
 pub mod Tables
 pub mod Bytes
+pub mod Meanings
 pub mod Integers

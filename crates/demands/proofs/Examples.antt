@@ -40,7 +40,7 @@ use Rattle.order.specs.Automaton.{mayStand, moved, stepped}
 use Rattle.walk.specs.Judging.{filledBy, ofKind, dataBy, judged}
 use Rattle.law.specs.Answers.{limit, reply, verdict}
 use Rattle.walk.specs.Walks.{lineIn, turnOf, traceIn, traceAt}
-use Rattle.rows_texts.specs.Texts.{textIs, sameTexts}
+use Rattle.rows_texts.specs.Texts.{textIs, sameMeanings, sameTexts}
 use Rattle.names.specs.Names.{usedIn, repeatIn}
 use Rattle.read.specs.Replies.{endedBy, surveyed, rowsIn, rowsOf, checkReply, readReply, examined, typeFrom}
 use Rattle.write_columns.specs.Columns.{liesIn, rangeFits, integerFits, wordFits, allZero, fieldsFit, rowFits}
@@ -133,7 +133,7 @@ pub answers :
     × (judgeReply board library ≡ verdict 16 0 1 1)
     × (judgeReply library entry ≡ verdict 17 0 0 1)
     × (judgeReply board board ≡ verdict 17 0 0 2)
-unfolding judgeReply judging.withLibrary judging.matched judging.placed judging.placedFrom examined typeFrom entries.lacksEntry entries.hasEntry entries.entryIn refers sameNames sameTexts textIs sameReply sameLists sameRow sameFrom agreesAt sameField ignoredAt listIn readReply checkReply surveyed endedBy repeatIn usedIn rowsIn traceAt traceIn turnOf lineIn judged ofKind dataBy filledBy kindOf filled fillFrom entryAt lineEnd contentLen endLen lineAs begins allOf permitted fieldsOf fieldsIn fieldOf fieldAt bareAt closedAt quotedAt endsWell span keywordOf keyFrom folded sameBytes placeOf wordsOf sections sectionNames kindAt sectionOf lineOf roleOf layoutOf typesOf keyKind dataKind mayStand mayOpen after moved stepped shapeOf manyLoops loopAfter eqZ meaning barred kept within beyond readField readNumber body whole decimals toCount digitHere readInteger unsigned digits isDate fitsIn isTwo datePieces
+unfolding judgeReply judging.withLibrary judging.matched judging.placed judging.placedFrom examined typeFrom entries.lacksEntry entries.hasEntry entries.entryIn refers sameNames sameTexts sameMeanings textIs sameReply sameLists sameRow sameFrom agreesAt sameField ignoredAt listIn readReply checkReply surveyed endedBy repeatIn usedIn rowsIn traceAt traceIn turnOf lineIn judged ofKind dataBy filledBy kindOf filled fillFrom entryAt lineEnd contentLen endLen lineAs begins allOf permitted fieldsOf fieldsIn fieldOf fieldAt bareAt closedAt quotedAt endsWell span keywordOf keyFrom folded sameBytes placeOf wordsOf sections sectionNames kindAt sectionOf lineOf roleOf layoutOf typesOf keyKind dataKind mayStand mayOpen after moved stepped shapeOf manyLoops loopAfter eqZ meaning barred kept within beyond readField readNumber body whole decimals toCount digitHere readInteger unsigned digits isDate fitsIn isTwo datePieces
 answers = (refl, refl, refl, refl, refl, refl, refl, refl, refl, refl, refl, refl, refl, refl, refl, refl)
 
 -- lines that end with 13 and 10: the Windows copy, and a 13 at the end of a file, which a 10 behind it mends
@@ -148,7 +148,7 @@ pub endings :
     × (sameReply library (windows library) ≡ verdict 0 0 1 0)
     × (checkReply returned ≡ reply 3 4 0)
     × (checkReply mended ≡ reply 0 0 3)
-unfolding copied sameReply sameLists sameRow sameFrom agreesAt sameField ignoredAt listIn readReply checkReply surveyed endedBy repeatIn usedIn rowsIn traceAt traceIn turnOf lineIn judged ofKind dataBy filledBy kindOf filled fillFrom entryAt lineEnd contentLen endLen lineAs begins allOf permitted fieldsOf fieldsIn fieldOf fieldAt bareAt closedAt quotedAt endsWell span keywordOf keyFrom folded sameBytes placeOf wordsOf sections sectionNames kindAt sectionOf lineOf roleOf layoutOf typesOf keyKind dataKind mayStand mayOpen after moved stepped shapeOf manyLoops loopAfter eqZ meaning barred kept within beyond readField readNumber body whole decimals toCount digitHere readInteger unsigned digits isDate fitsIn isTwo datePieces
+unfolding copied sameMeanings sameReply sameLists sameRow sameFrom agreesAt sameField ignoredAt listIn readReply checkReply surveyed endedBy repeatIn usedIn rowsIn traceAt traceIn turnOf lineIn judged ofKind dataBy filledBy kindOf filled fillFrom entryAt lineEnd contentLen endLen lineAs begins allOf permitted fieldsOf fieldsIn fieldOf fieldAt bareAt closedAt quotedAt endsWell span keywordOf keyFrom folded sameBytes placeOf wordsOf sections sectionNames kindAt sectionOf lineOf roleOf layoutOf typesOf keyKind dataKind mayStand mayOpen after moved stepped shapeOf manyLoops loopAfter eqZ meaning barred kept within beyond readField readNumber body whole decimals toCount digitHere readInteger unsigned digits isDate fitsIn isTwo datePieces
 endings = (refl, refl, refl, refl)
 
 -- the rows of a file, written over its bytes: enough room, too little; no rows
@@ -157,7 +157,7 @@ pub written :
     × (writeReply (rowsOf library) library 60 ≡ reply 14 0 61)
     × (writeReply [] library 60 ≡ reply 15 0 0)
     × (writeText (rowsOf other-words) other-words (replicate 61 46) ≡ library)
-unfolding writeReply writeText textOf lineText canonicalRecord canonicalLine canonicalFields canonicalField canonical.written joined needsQuotes isEmpty printed signOf magnitudeOf numeralOf decimalsOf wordAt isKind wholeRows chunks writable carries rowStep twice namedIn namesIt sameNames sameTexts rowFits fieldsFit allZero rangeFits liesIn integerFits wordFits fits goodText valuesIn rowsIn traceAt traceIn turnOf lineIn judged ofKind dataBy filledBy kindOf filled fillFrom entryAt lineEnd contentLen endLen lineAs begins allOf permitted fieldsOf fieldsIn fieldOf fieldAt bareAt closedAt quotedAt endsWell span keywordOf keyFrom folded sameBytes placeOf wordsOf sections sectionNames kindAt sectionOf lineOf roleOf layoutOf typesOf keyKind dataKind mayStand mayOpen after moved stepped shapeOf manyLoops loopAfter eqZ meaning barred kept within beyond readField readNumber body whole decimals toCount digitHere readInteger unsigned digits isDate fitsIn isTwo datePieces
+unfolding writeReply writeText textOf lineText canonicalRecord canonicalLine canonicalFields canonicalField canonical.written joined needsQuotes isEmpty printed signOf magnitudeOf numeralOf decimalsOf wordAt isKind wholeRows chunks writable carries rowStep twice namedIn namesIt sameNames sameTexts sameMeanings rowFits fieldsFit allZero rangeFits liesIn integerFits wordFits fits goodText valuesIn rowsIn traceAt traceIn turnOf lineIn judged ofKind dataBy filledBy kindOf filled fillFrom entryAt lineEnd contentLen endLen lineAs begins allOf permitted fieldsOf fieldsIn fieldOf fieldAt bareAt closedAt quotedAt endsWell span keywordOf keyFrom folded sameBytes placeOf wordsOf sections sectionNames kindAt sectionOf lineOf roleOf layoutOf typesOf keyKind dataKind mayStand mayOpen after moved stepped shapeOf manyLoops loopAfter eqZ meaning barred kept within beyond readField readNumber body whole decimals toCount digitHere readInteger unsigned digits isDate fitsIn isTwo datePieces
 written = (refl, refl, refl, refl)
 
 -- so they meet the premises

@@ -68,6 +68,8 @@ use Rattle.rows.proofs.is_library.Kinds as rows-is-library
 use Rattle.rows.proofs.is_library.Reads as rows-is-library-says
 use Rattle.rows_texts.proofs.text_is.Kinds as rows-texts-text-is
 use Rattle.rows_texts.proofs.text_is.Reads as rows-texts-text-is-says
+use Rattle.rows_texts.proofs.same_meanings.Kinds as rows-texts-same-meanings
+use Rattle.rows_texts.proofs.same_meanings.Reads as rows-texts-same-meanings-says
 use Rattle.rows_texts.proofs.same_texts.Kinds as rows-texts-same-texts
 use Rattle.rows_texts.proofs.same_texts.Reads as rows-texts-same-texts-says
 use Rattle.rows_texts.proofs.hash_text.Kinds as rows-texts-hash-text
@@ -231,6 +233,9 @@ tight-rows-is-library κs a r q ws us e f = (e ∙ sym f, refl)
 
 pub tight-rows-texts-text-is : Tight 2 rows-texts-text-is.ps rows-texts-text-is.r rows-texts-text-is-says.Learnt
 tight-rows-texts-text-is κs a r q ws us e f = (e ∙ sym f, refl)
+
+pub tight-rows-texts-same-meanings : Tight 2 rows-texts-same-meanings.ps rows-texts-same-meanings.r rows-texts-same-meanings-says.Learnt
+tight-rows-texts-same-meanings κs a r q ws us e f = (e ∙ sym f, refl)
 
 pub tight-rows-texts-same-texts : Tight 2 rows-texts-same-texts.ps rows-texts-same-texts.r rows-texts-same-texts-says.Learnt
 tight-rows-texts-same-texts κs a r q ws us e f = (e ∙ sym f, refl)

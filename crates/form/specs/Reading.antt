@@ -26,7 +26,7 @@ use Rattle.form.specs.Fits.{beyond}
 use Rattle.law.specs.declared.Context.{Context}
 use Rattle.law.specs.declared.Limit.{Limit}
 use Rattle.law.specs.declared.FieldType.{FieldType}
-use Rattle.law.specs.declared.FieldType.the-variants.{Text as T, Reference as Ref, Date as D, Integer as I, Number as N, Word as W}
+use Rattle.law.specs.declared.FieldType.the-variants.{Text as T, Date as D, Integer as I, Number as N, Word as W}
 use Rattle.form.specs.declared.Keyword.{Keyword}
 use Rattle.form.specs.declared.Keyword.the-variants.{Opening, Closing, Unknown}
 
@@ -46,8 +46,7 @@ ofPlace none = refused 9
 ofPlace (some n) = good (word n)
 
 unfoldable pub readField : Context → FieldType → Field → Reply Value
-readField c T (field q s) = good (text (meaning T s))
-readField c Ref (field q s) = cond (barred c (meaning Ref s)) (refused 9) (good (text (meaning Ref s)))
+readField c (T k) (field q s) = cond (barred c k (meaning (T k) s)) (refused 9) (good (text (meaning (T k) s)))
 readField c D (field true s) = refused 9
 readField c D (field false s) = cond (isDate s) (good (text s)) (refused 9)
 readField c I (field true s) = refused 7

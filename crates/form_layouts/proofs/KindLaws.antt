@@ -25,7 +25,8 @@ use Rattle.law.specs.declared.Words.the-variants.{FileTypes, Units, Owners, Fac
 use Rattle.law.specs.declared.Limit.{Limit}
 use Rattle.law.specs.declared.Limit.the-variants.{Length as L, NotBelow as L0, Above as Lp, Included as A, Rotation as R, Version as Ver}
 use Rattle.law.specs.declared.FieldType.{FieldType}
-use Rattle.law.specs.declared.FieldType.the-variants.{Text as T, Reference as Ref, Date as D, Integer as I, Number as N, Word as W}
+use Rattle.law.specs.declared.Texts.the-variants.{Plain, Reference, Hole}
+use Rattle.law.specs.declared.FieldType.the-variants.{Text as T, Date as D, Integer as I, Number as N, Word as W}
 use Rattle.law.specs.declared.Rules.{Rules}
 use Rattle.law.specs.declared.Rules.the-variants.{Idf3}
 
@@ -129,8 +130,9 @@ nine v k = leb-true (widths (typesOf v k)) 9 (and-right (leb (length (typesOf v 
 -- a type by its letter
 pub named : (t : FieldType) → typeNamed (letterOf t) ≡ t
 unfolding typeNamed
-named T = refl
-named Ref = refl
+named (T Plain) = refl
+named (T Reference) = refl
+named (T Hole) = refl
 named D = refl
 named I = refl
 named (N L) = refl
@@ -159,8 +161,11 @@ words-last n p =
     rw (ne-eqb n 0 (λ e. omega arith), ne-eqb n 1 (λ e. omega arith), ne-eqb n 2 (λ e. omega arith), ne-eqb n 3 (λ e. omega arith), ne-eqb n 4 (λ e. omega arith), ne-eqb n 5 (λ e. omega arith), ne-eqb n 6 (λ e. omega arith))
 
 module _ (b : ℕ) where
-  pub plain-reference : b ≡ 82 → Ref ≡ plainNamed b
+  pub plain-reference : b ≡ 82 → T Reference ≡ plainNamed b
   plain-reference e = rw e
+
+  pub plain-hole : b ≡ 72 → T Hole ≡ plainNamed b
+  plain-hole e = rw e
 
   pub plain-date : b ≡ 68 → D ≡ plainNamed b
   plain-date e = rw e
@@ -168,8 +173,8 @@ module _ (b : ℕ) where
   pub plain-integer : b ≡ 73 → I ≡ plainNamed b
   plain-integer e = rw e
 
-  pub plain-text : (b ≡ 82 → ⊥) → (b ≡ 68 → ⊥) → (b ≡ 73 → ⊥) → T ≡ plainNamed b
-  plain-text n m k = rw (ne-eqb b 82 n, ne-eqb b 68 m, ne-eqb b 73 k)
+  pub plain-text : (b ≡ 82 → ⊥) → (b ≡ 72 → ⊥) → (b ≡ 68 → ⊥) → (b ≡ 73 → ⊥) → T Plain ≡ plainNamed b
+  plain-text n j m k = rw (ne-eqb b 82 n, ne-eqb b 72 j, ne-eqb b 68 m, ne-eqb b 73 k)
 
   pub named-plain : (t : FieldType) → b < 97 → t ≡ plainNamed b → t ≡ typeNamed b
   unfolding typeNamed
@@ -191,7 +196,7 @@ module _ (v : Rules) (k : ℕ) (row : List ℕ) (e : row ≡ rowOf v k) where
 -- field i of a layout in front of those behind it, and the columns that they fill
 module _ (ts : List FieldType) (i : ℕ) (h : i < length ts) where
   pub type-here : drop i ts ≡ typeAt ts i ∷ drop (i + 1) ts
-  type-here = rw (add-one i) (drop-cons ts i T h)
+  type-here = rw (add-one i) (drop-cons ts i (T Plain) h)
 
   pub widths-here : widths (drop i ts) ≡ widthOf (typeAt ts i) + widths (drop (i + 1) ts)
   unfolding widths

@@ -14,12 +14,12 @@ use Rattle.law.specs.declared.Words.the-variants.{FileTypes, Units, Owners, Fac
 use Rattle.law.specs.declared.Limit.{Limit}
 use Rattle.law.specs.declared.Limit.the-variants.{Length as L, NotBelow as L0, Above as Lp, Included as A, Rotation as R, Version as Ver}
 use Rattle.law.specs.declared.FieldType.{FieldType}
-use Rattle.law.specs.declared.FieldType.the-variants.{Text as T, Reference as Ref, Date as D, Integer as I, Number as N, Word as W}
+use Rattle.law.specs.declared.Texts.the-variants.{Plain, Reference, Hole}
+use Rattle.law.specs.declared.FieldType.the-variants.{Text as T, Date as D, Integer as I, Number as N, Word as W}
 
 -- how many columns of a row a field fills: a text or a date has its start and its length
 abbrev pub widthOf : FieldType → ℕ
-widthOf T = 2
-widthOf Ref = 2
+widthOf (T k) = 2
 widthOf D = 2
 widthOf I = 1
 widthOf (N l) = 1
@@ -39,7 +39,7 @@ isKind v k = knownBy (layoutOf v k)
 
 -- the type of field i
 abbrev pub typeAt : List FieldType → ℕ → FieldType
-typeAt ts i = getD ts i T
+typeAt ts i = getD ts i (T Plain)
 
 -- letters
 
@@ -63,8 +63,9 @@ wordsLetter Statuses = 110
 
 -- the letter of a type
 abbrev pub letterOf : FieldType → ℕ
-letterOf T = 84
-letterOf Ref = 82
+letterOf (T Plain) = 84
+letterOf (T Reference) = 82
+letterOf (T Hole) = 72
 letterOf D = 68
 letterOf I = 73
 letterOf (N l) = limitLetter l
@@ -86,7 +87,7 @@ wordsAt n =
     Statuses))))))
 
 abbrev pub plainNamed : ℕ → FieldType
-plainNamed b = cond (eqb b 82) Ref (cond (eqb b 68) D (cond (eqb b 73) I T))
+plainNamed b = cond (eqb b 82) (T Reference) (cond (eqb b 72) (T Hole) (cond (eqb b 68) D (cond (eqb b 73) I (T Plain))))
 
 -- the type of a letter
 unfoldable pub typeNamed : ℕ → FieldType
@@ -116,7 +117,7 @@ layoutTable =
     ∷ ascii "1l      "
     ∷ ascii "2kb     "
     ∷ ascii "2kT     "
-    ∷ ascii "7caamTTi"
+    ∷ ascii "7caamHTi"
     ∷ ascii "5aaaaT  "
     ∷ ascii "3TTR    "
     ∷ ascii "6aabejn "

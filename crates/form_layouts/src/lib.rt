@@ -2,6 +2,7 @@
 use law::FieldType;
 use law::Limit;
 use law::Rules;
+use law::Texts;
 use law::Words;
 use rows::LAST_KIND;
 ghost use mathlib.Core.Path.{_≡_};
@@ -12,7 +13,7 @@ ghost use Rattle.law.specs.Kinds.{sectionOf};
 ghost use Rattle.form_layouts.specs.Letters.{lineLetter, letterAt, rowOf, isKind, typeAt, limitAt, wordsAt, plainNamed, typeNamed, widthOf};
 
 // The row of each layout: how many fields, and the letter of each field's type.
-// Letters of types: T text, R reference, D date, I integer; numbers, in the order of their limits: a length, b length from zero on,
+// Letters of types: T text, R reference, H a hole's part, D date, I integer; numbers, in the order of their limits: a length, b length from zero on,
 // c length above zero, d included angle, e rotation, f version; words, in the order of their lists: g file types, h units, i owners,
 // j faces, k sides, l layers, m plates, n statuses.
 const NO_FIELDS: [u8; 8] = *b"0       "; // A a keyword alone, and @ no such kind
@@ -33,7 +34,7 @@ const HEIGHT: [u8; 8] = *b"2kb     "; // H side, height
 
 const GROUP: [u8; 8] = *b"2kT     "; // I side, group
 
-const HOLE: [u8; 8] = *b"7caamTTi"; // J diameter, x, y, plating, part, hole type, owner
+const HOLE: [u8; 8] = *b"7caamHTi"; // J diameter, x, y, plating, part, hole type, owner
 
 const NOTE: [u8; 8] = *b"5aaaaT  "; // K x, y, height, length, text
 
@@ -215,8 +216,7 @@ pub fn width_of(t: FieldType) -> usize
     ensures { λ r. ⌜ r ≡ widthOf t ⌝ }
 {
     match t {
-        FieldType::Text => 2,
-        FieldType::Reference => 2,
+        FieldType::Text(_) => 2,
         FieldType::Date => 2,
         FieldType::Integer => 1,
         FieldType::Number(_) => 1,
@@ -259,10 +259,11 @@ fn plain_type(letter: u8) -> FieldType
     ensures { λ r. ⌜ r ≡ plainNamed letter ⌝ }
 {
     match letter {
-        82 => FieldType::Reference,
+        82 => FieldType::Text(Texts::Reference),
+        72 => FieldType::Text(Texts::Hole),
         68 => FieldType::Date,
         73 => FieldType::Integer,
-        _ => FieldType::Text,
+        _ => FieldType::Text(Texts::Plain),
     }
 }
 

@@ -206,7 +206,7 @@ title-held =
       left = 2;
       is = refl;
       ten = refl;
-      means = aWord (aNumber refl (aText {a = 25} {l = 1} refl (omega arith) (aDate {a = 27} {l = 19} (omega arith) (aNumber refl none))));
+      means = aWord (aNumber refl (aText {a = 25} {l = 1} (omega arith) (aDate {a = 27} {l = 19} (omega arith) (aNumber refl none))));
     }
 
 -- judging: R1 is served by an electrical entry, NOREFDES by a mechanical one and by no other

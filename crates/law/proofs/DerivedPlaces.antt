@@ -16,12 +16,13 @@ use Rattle.law.specs.Sections.{sections}
 use Rattle.law.specs.Kinds.{sectionOf, lineOf, roleOf}
 use Rattle.law.specs.Layouts.{layoutOf}
 use Rattle.law.specs.Values.{text, Rec}
-use Rattle.law.specs.Fits.{under, meaning}
+use Rattle.law.specs.Fits.{under, meaning, barred}
 use Rattle.law.specs.RecordSpelling as spelled
 use Rattle.law.specs.RecordSpelling.{SpellsRecord, asText, withProp, asLine}
 use Rattle.law.specs.Answers.{reply}
 use Rattle.law.specs.declared.Rules.the-variants.{Idf3}
 use Rattle.law.specs.declared.FileType.the-variants.{Library}
+use Rattle.law.specs.declared.Texts.the-variants.{Plain}
 use Rattle.law.specs.FieldPlaces.{SpelledAt, end, space, last, next, numbersOf}
 use Rattle.law.specs.RowPlaces as rows
 use Rattle.law.specs.RowPlaces.{columnsOfAll, RowOf, RowsAt}
@@ -49,11 +50,11 @@ four : Spells (field false (ascii "PROP")) (ascii "PROP")
 four = bare (by.one refl (by.one refl (by.one refl (by.one refl by.none))))
 
 spells-property : SpellsRecord (under Idf3 Library) its property
-unfolding layoutOf sectionOf lineOf roleOf sections sameBytes meaning permitted
+unfolding layoutOf sectionOf lineOf roleOf sections sameBytes meaning barred permitted
 spells-property =
     asLine refl
     (withProp {p = ascii "PROP"} refl
-    (spelled.more (asText {s = ascii "A"}) (spelled.more (asText {s = ascii "A"}) spelled.none))
+    (spelled.more (asText {k = Plain} {s = ascii "A"} refl) (spelled.more (asText {k = Plain} {s = ascii "A"} refl) spelled.none))
     (rules.next four (rules.space (rules.next (one-byte 65 refl) (rules.space (rules.last (one-byte 65 refl))))))
     (by.one refl (by.one refl (by.one refl (by.one refl (by.one refl (by.one refl (by.one refl (by.one refl by.none)))))))))
 

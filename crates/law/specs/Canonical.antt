@@ -18,7 +18,7 @@ use Rattle.law.specs.declared.Rules.the-variants.{Idf3}
 use Rattle.law.specs.declared.Limit.{Limit}
 use Rattle.law.specs.declared.Limit.the-variants.{Length as L, NotBelow as L0, Above as Lp, Included as A, Rotation as R, Version as Ver}
 use Rattle.law.specs.declared.FieldType.{FieldType}
-use Rattle.law.specs.declared.FieldType.the-variants.{Text as T, Reference as Ref, Date as D, Integer as I, Number as N, Word as W}
+use Rattle.law.specs.declared.FieldType.the-variants.{Text as T, Date as D, Integer as I, Number as N, Word as W}
 
 -- a byte other than a space
 abbrev pub noSpace : ℕ → Bool
@@ -43,8 +43,7 @@ printedNumber v Ver z = versionText v
 
 -- the field of a value at its type: texts alone are quoted, numbers alone have decimals, words stand in their list
 unfoldable pub canonicalField : Rules → FieldType → Value → Field
-canonicalField v T x = field (needsQuotes (bytesOf x)) (bytesOf x)
-canonicalField v Ref x = field (needsQuotes (bytesOf x)) (bytesOf x)
+canonicalField v (T k) x = field (needsQuotes (bytesOf x)) (bytesOf x)
 canonicalField v D x = field false (bytesOf x)
 canonicalField v I x = field false (printedInteger (numOf x))
 canonicalField v (N l) x = field false (printedNumber v l (numOf x))

@@ -13,8 +13,9 @@ use Rattle.law.specs.declared.Context.{Context}
 use Rattle.law.specs.declared.Limit.{Limit}
 use Rattle.law.specs.declared.Limit.the-variants.{Version as Ver}
 use Rattle.law.specs.declared.Words.{Words}
+use Rattle.law.specs.declared.Texts.the-variants.{Reference}
 use Rattle.law.specs.declared.FieldType.{FieldType}
-use Rattle.law.specs.declared.FieldType.the-variants.{Reference as Ref, Date as D, Integer as I, Number as N, Word as W}
+use Rattle.law.specs.declared.FieldType.the-variants.{Text as T, Date as D, Integer as I, Number as N, Word as W}
 use Rattle.law.specs.RecordSpelling.{SpellsField}
 use Rattle.law.specs.Magnitudes.{InMagnitude}
 
@@ -32,7 +33,7 @@ pub data FaultyField (c : Context) : FieldType → Field → ℕ → Type 0 wher
   beyond-limit : {l : Limit} {s : List ℕ} {z : ℤ} → l ≢ Ver → SpellsNumber (kept c l) (largest l) z s → within c l z ≡ false → FaultyField c (N l) (field false s) 10
   no-word : {l : Words} {f : Field} → NoValue c (W l) f → FaultyField c (W l) f 9
   no-date : {f : Field} → NoValue c D f → FaultyField c D f 9
-  barred-board : {f : Field} → NoValue c Ref f → FaultyField c Ref f 9
+  barred-board : {f : Field} → NoValue c (T Reference) f → FaultyField c (T Reference) f 9
 
 -- the fields from the left: the first that has no value
 pub data FaultyFields (c : Context) : List FieldType → List Field → ℕ → Type 0 where

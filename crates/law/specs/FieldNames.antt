@@ -1,47 +1,51 @@
 -- The fields of the table of sections by name, each with its type.
 use mathlib.Core.List.{List, [], _∷_}
 use Rattle.law.specs.declared.Words.the-variants.{FileTypes, Units, Owners, Faces, Sides, Layers, Plates, Statuses}
+use Rattle.law.specs.declared.Texts.the-variants.{Plain, Reference, Hole}
 use Rattle.law.specs.declared.Limit.{Limit}
 use Rattle.law.specs.declared.Limit.the-variants.{Length as any, Included, Rotation, Version}
 use Rattle.law.specs.declared.FieldType.{FieldType}
-use Rattle.law.specs.declared.FieldType.the-variants.{Text, Reference, Date, Integer, Number, Word}
+use Rattle.law.specs.declared.FieldType.the-variants.{Text, Date, Integer, Number, Word}
 
 -- texts
 abbrev pub system : FieldType
-system = Text
+system = Text Plain
 
 abbrev pub boardName : FieldType
-boardName = Text
+boardName = Text Plain
 
 abbrev pub identifier : FieldType
-identifier = Text
+identifier = Text Plain
 
 abbrev pub group : FieldType
-group = Text
+group = Text Plain
 
 abbrev pub holeType : FieldType
-holeType = Text
+holeType = Text Plain
 
 abbrev pub note : FieldType
-note = Text
+note = Text Plain
 
 abbrev pub packageName : FieldType
-packageName = Text
+packageName = Text Plain
 
 abbrev pub geometry : FieldType
-geometry = Text
+geometry = Text Plain
 
 abbrev pub partNumber : FieldType
-partNumber = Text
+partNumber = Text Plain
 
 abbrev pub property : FieldType
-property = Text
+property = Text Plain
 
 abbrev pub content : FieldType
-content = Text
+content = Text Plain
+
+abbrev pub holePart : FieldType
+holePart = Text Hole
 
 abbrev pub reference : FieldType
-reference = Reference
+reference = Text Reference
 
 -- the date, integers
 abbrev pub date : FieldType

@@ -22,7 +22,9 @@ use Rattle.law.specs.declared.Words.{Words}
 use Rattle.law.specs.declared.Limit.{Limit}
 use Rattle.law.specs.declared.Limit.the-variants.{Length as L, NotBelow as L0, Above as Lp, Included as A, Rotation as R, Version as Ver}
 use Rattle.law.specs.declared.FieldType.{FieldType}
-use Rattle.law.specs.declared.FieldType.the-variants.{Text as T, Reference as Ref, Date as D, Integer as I, Number as N, Word as W}
+use Rattle.law.specs.declared.Texts.{Texts}
+use Rattle.law.specs.declared.Texts.the-variants.{Plain, Reference, Hole}
+use Rattle.law.specs.declared.FieldType.the-variants.{Text as T, Date as D, Integer as I, Number as N, Word as W}
 
 abbrev pub under : Rules → FileType → Context
 under v t = record { rules = v; file = t }
@@ -75,8 +77,10 @@ isBoard Panel = false
 isBoard Library = false
 
 -- BOARD as a reference, in a board
-unfoldable pub barred : Context → List ℕ → Bool
-barred c s = isBoard (c .file) && sameBytes boardWord s
+unfoldable pub barred : Context → Texts → List ℕ → Bool
+barred c Plain s = false
+barred c Reference s = isBoard (c .file) && sameBytes boardWord s
+barred c Hole s = false
 
 -- bytes of a text: 32 to 126 and 128 to 255, no quote
 abbrev pub textByte : ℕ → Bool
@@ -97,12 +101,9 @@ goodWord v l n = not (isEmpty (wordAt (wordsOf v l) n))
 -- values and records
 
 unfoldable pub fits : Context → FieldType → Value → Bool
-fits c T (text s) = goodText T s
-fits c T (number z) = false
-fits c T (word n) = false
-fits c Ref (text s) = goodText Ref s && not (barred c s)
-fits c Ref (number z) = false
-fits c Ref (word n) = false
+fits c (T k) (text s) = not (barred c k s) && goodText (T k) s
+fits c (T k) (number z) = false
+fits c (T k) (word n) = false
 fits c D (text s) = isDate s
 fits c D (number z) = false
 fits c D (word n) = false

@@ -20,12 +20,12 @@ use Rattle.law.specs.declared.Context.{Context}
 use Rattle.law.specs.declared.Limit.{Limit}
 use Rattle.law.specs.declared.Words.{Words}
 use Rattle.law.specs.declared.FieldType.{FieldType}
-use Rattle.law.specs.declared.FieldType.the-variants.{Text as T, Reference as Ref, Date as D, Integer as I, Number as N, Word as W}
+use Rattle.law.specs.declared.Texts.{Texts}
+use Rattle.law.specs.declared.FieldType.the-variants.{Text as T, Date as D, Integer as I, Number as N, Word as W}
 
 -- a text is bare or quoted, and BOARD as a reference does not occur in a board; numbers, integers, words and the date are bare
 pub data SpellsField (c : Context) : FieldType → Value → Field → Type 0 where
-  asText : {q : Bool} {s : List ℕ} → SpellsField c T (text (meaning T s)) (field q s)
-  asReference : {q : Bool} {s : List ℕ} → barred c (meaning Ref s) ≡ false → SpellsField c Ref (text (meaning Ref s)) (field q s)
+  asText : {k : Texts} {q : Bool} {s : List ℕ} → barred c k (meaning (T k) s) ≡ false → SpellsField c (T k) (text (meaning (T k) s)) (field q s)
   asDate : {s : List ℕ} → isDate s ≡ true → SpellsField c D (text s) (field false s)
   asInteger : {z : ℤ} {s : List ℕ} → SpellsInteger z s → SpellsField c I (number z) (field false s)
   asNumber : {l : Limit} {z : ℤ} {s : List ℕ} → SpellsNumber (kept c l) (largest l) z s → within c l z ≡ true → SpellsField c (N l) (number z) (field false s)

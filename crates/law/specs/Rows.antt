@@ -10,26 +10,18 @@ use Rattle.law.specs.Values.{Value, number, word, text, Rec}
 use Rattle.law.specs.Layouts.{typesOf}
 use Rattle.law.specs.Fits.{meaning}
 use Rattle.law.specs.Lists.{Permitted, Distinct}
+use Rattle.law.specs.declared.Texts.{Texts}
 use Rattle.law.specs.declared.FieldType.{FieldType}
 use Rattle.law.specs.declared.Words.{Words}
-use Rattle.law.specs.declared.FieldType.the-variants.{Text as T, Reference as Ref, Date as D, Integer as I, Number as N, Word as W}
+use Rattle.law.specs.declared.FieldType.the-variants.{Text as T, Date as D, Integer as I, Number as N, Word as W}
 use Rattle.law.specs.declared.Rules.the-variants.{Idf3}
 
 -- how many numbers a row has
 abbrev pub width : ℕ
 width = 10
 
-abbrev pub isText : FieldType → Bool
-isText T = true
-isText Ref = true
-isText D = false
-isText I = false
-isText (N l) = false
-isText (W l) = false
-
 abbrev pub isNumber : FieldType → Bool
-isNumber T = false
-isNumber Ref = false
+isNumber (T k) = false
 isNumber D = false
 isNumber I = true
 isNumber (N l) = true
@@ -41,7 +33,7 @@ pub data Means (file : List ℕ) : List FieldType → List ℤ → List Value �
   aNumber : {t : FieldType} {z : ℤ} {ts : List FieldType} {cs : List ℤ} {vs : List Value} → isNumber t ≡ true → Means file ts cs vs → Means file (t ∷ ts) (z ∷ cs) (number z ∷ vs)
   aWord : {l : Words} {n : ℕ} {ts : List FieldType} {cs : List ℤ} {vs : List Value} → Means file ts cs vs → Means file (W l ∷ ts) (pos n ∷ cs) (word n ∷ vs)
   aDate : {a l : ℕ} {ts : List FieldType} {cs : List ℤ} {vs : List Value} → a + l ≤ length file → Means file ts cs vs → Means file (D ∷ ts) (pos a ∷ pos l ∷ cs) (text (take l (drop a file)) ∷ vs)
-  aText : {t : FieldType} {a l : ℕ} {ts : List FieldType} {cs : List ℤ} {vs : List Value} → isText t ≡ true → a + l ≤ length file → Means file ts cs vs → Means file (t ∷ ts) (pos a ∷ pos l ∷ cs) (text (meaning t (take l (drop a file))) ∷ vs)
+  aText : {k : Texts} {a l : ℕ} {ts : List FieldType} {cs : List ℤ} {vs : List Value} → a + l ≤ length file → Means file ts cs vs → Means file (T k ∷ ts) (pos a ∷ pos l ∷ cs) (text (meaning (T k) (take l (drop a file))) ∷ vs)
 
 -- a row of kind k holds values: the kind, columns that mean the values, and 0 in what is left of its columns
 pub record Holds (file : List ℕ) (k : ℕ) (ts : List FieldType) (row : List ℤ) (vs : List Value) : Type 0 where

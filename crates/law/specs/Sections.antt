@@ -10,7 +10,7 @@ use Rattle.law.specs.declared.Rules.{Rules}
 use Rattle.law.specs.declared.Rules.the-variants.{Idf3}
 use Rattle.law.specs.declared.Limit.the-variants.{Length as any, NotBelow as fromZero, Above as aboveZero}
 use Rattle.law.specs.declared.FieldType.{FieldType}
-use Rattle.law.specs.FieldNames.{system, boardName, identifier, group, holeType, note, packageName, geometry, partNumber, property, content, reference, date, fileVersion, thickness, height, offset, diameter, textLength, x, y, rotation, version, fileType, unit, owner, face, side, layers, plating, status, pointLine}
+use Rattle.law.specs.FieldNames.{system, boardName, identifier, group, holeType, holePart, note, packageName, geometry, partNumber, property, content, reference, date, fileVersion, thickness, height, offset, diameter, textLength, x, y, rotation, version, fileType, unit, owner, face, side, layers, plating, status, pointLine}
 
 -- what the data lines of a section are
 --   header      the title line, and then (not in a library) the line with name and unit
@@ -51,7 +51,7 @@ sections Idf3 =
     ∷ form 8 "VIA_KEEPOUT" O keepout (pointLine ∷ [])
     ∷ form 9 "PLACE_KEEPOUT" O outline ((side ∷ height fromZero ∷ []) ∷ pointLine ∷ [])
     ∷ form 10 "PLACE_REGION" O outline ((side ∷ group ∷ []) ∷ pointLine ∷ [])
-    ∷ form 11 "DRILLED_HOLES" no listing ((diameter aboveZero ∷ x ∷ y ∷ plating ∷ partNumber ∷ holeType ∷ owner ∷ []) ∷ [])
+    ∷ form 11 "DRILLED_HOLES" no listing ((diameter aboveZero ∷ x ∷ y ∷ plating ∷ holePart ∷ holeType ∷ owner ∷ []) ∷ [])
     ∷ form 12 "NOTES" no listing ((x ∷ y ∷ height any ∷ textLength ∷ note ∷ []) ∷ [])
     ∷ form 13 "PLACEMENT" no placements ((packageName ∷ partNumber ∷ reference ∷ []) ∷ (x ∷ y ∷ offset fromZero ∷ rotation ∷ face ∷ status ∷ []) ∷ [])
     ∷ form 14 "ELECTRICAL" no component ((geometry ∷ partNumber ∷ unit ∷ height any ∷ []) ∷ pointLine ∷ (property ∷ content ∷ []) ∷ [])

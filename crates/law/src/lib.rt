@@ -41,10 +41,16 @@ pub enum Limit {
     Version,
 }
 
+// What a text may name: nothing of its own, what a reference names, what a hole's part does.
+pub enum Texts {
+    Plain,
+    Reference,
+    Hole,
+}
+
 // What a field may hold.
 pub enum FieldType {
-    Text,
-    Reference,
+    Text(Texts),
     Date,
     Integer,
     Number(Limit),

@@ -1,7 +1,7 @@
 -- Laws by which the code of a field follows its definition.
 use Prim.Native.Nat.{ℕ, suc, _≤_}
 use mathlib.Core.Path.{_≡_, refl, sym, _∙_}
-use mathlib.Core.List.{List, []}
+use mathlib.Core.List.{List}
 use mathlib.Core.Option.{Option, none, some}
 use mathlib.Core.Bool.{Bool, true, false, cond, not, _&&_, and-true}
 use native.Mathlib.Omega.{arith}
@@ -12,6 +12,7 @@ use mir.Syntax.{w64}
 use mir.Val.{SFits}
 use mir.ValLaws.{toZ-ofZ}
 use Rattle.basics.proofs.Bools.{and-none}
+use Rattle.basics.proofs.Meanings.{itself}
 use Rattle.basics.proofs.Integers.{back}
 use Rattle.law.specs.Fields.{field}
 use Rattle.law.specs.Limits.{below, mostDecimals, largestLength, largestAngle, fullTurn, inTurn}
@@ -33,15 +34,17 @@ use Rattle.number_read.proofs.NumberSpelling.{number-sound, number-small}
 use Rattle.form.specs.Fits.{beyond}
 use Rattle.form.specs.Reading.{ofPlace, readField}
 use Rattle.form_words.specs.Padded.{found}
-use Rattle.line_fields.specs.Told.{told, toldCount, toldInteger, toldWord, toldReference, toldDate}
+use Rattle.line_fields.specs.Told.{told, toldCount, toldInteger, toldWord, toldText, toldDate}
 use Rattle.law.specs.declared.Rules.{Rules}
 use Rattle.law.specs.declared.Rules.the-variants.{Idf3}
 use Rattle.law.specs.declared.Context.{Context}
 use Rattle.law.specs.declared.Words.{Words}
 use Rattle.law.specs.declared.Limit.{Limit}
 use Rattle.law.specs.declared.Limit.the-variants.{Length as L, NotBelow as L0, Above as Lp, Included as A, Rotation as R, Version as Ver}
+use Rattle.law.specs.declared.Texts.{Texts}
+use Rattle.law.specs.declared.Texts.the-variants.{Plain, Reference, Hole}
 use Rattle.law.specs.declared.FieldType.{FieldType}
-use Rattle.law.specs.declared.FieldType.the-variants.{Text as T, Reference as Ref, Date as D, Integer as I, Number as N, Word as W}
+use Rattle.law.specs.declared.FieldType.the-variants.{Text as T, Date as D, Integer as I, Number as N, Word as W}
 use Rattle.form_words.specs.declared.WordAnswer.{WordAnswer}
 use Rattle.form_words.specs.declared.WordAnswer.the-variants.{At, Nowhere}
 use Rattle.line_fields.specs.declared.FieldReply.{FieldReply}
@@ -170,20 +173,33 @@ module _ (v : Rules) (l : Words) (s : List ℕ) (p : WordAnswer) (e : p ≡ foun
 
 -- BOARD in a board
 module _ (c : Context) (s : List ℕ) (x : Bool) (e : x ≡ isBoard (c .file)) where
-  pub barred-by : (y : Bool) → x ≡ true → y ≡ sameBytes boardWord s → y ≡ barred c s
+  pub barred-by : (y : Bool) → x ≡ true → y ≡ sameBytes boardWord s → y ≡ barred c Reference (meaning (T Reference) s)
   unfolding barred
-  barred-by y h i = rw (sym e ∙ h) i
+  barred-by y h i = rw (sym e ∙ h, itself (T Reference) s) i
 
-  pub barred-not : x ≡ false → false ≡ barred c s
+  pub barred-not : x ≡ false → false ≡ barred c Reference (meaning (T Reference) s)
   unfolding barred
   barred-not h = rw (sym e ∙ h)
 
-module _ (c : Context) (s : List ℕ) (r : Bool) (e : r ≡ barred c s) where
-  pub reference-barred : r ≡ true → Refused 9 ≡ toldReference c s
-  reference-barred t = rw (sym e ∙ t)
+-- a text that may name nothing else is never barred
+module _ (c : Context) (k : Texts) (s : List ℕ) where
+  pub plain-free : k ≡ Plain → false ≡ barred c k (meaning (T k) s)
+  unfolding barred
+  plain-free h = rw h
 
-  pub reference-free : r ≡ false → Bytes ≡ toldReference c s
-  reference-free t = rw (sym e ∙ t)
+  pub hole-free : k ≡ Hole → false ≡ barred c k (meaning (T k) s)
+  unfolding barred
+  hole-free h = rw h
+
+  pub reference-barred : (r : Bool) → k ≡ Reference → r ≡ barred c Reference (meaning (T Reference) s) → r ≡ barred c k (meaning (T k) s)
+  reference-barred r h e = rw h e
+
+  module _ (r : Bool) (e : r ≡ barred c k (meaning (T k) s)) where
+    pub text-barred : r ≡ true → Refused 9 ≡ toldText c k s
+    text-barred t = rw (sym e ∙ t)
+
+    pub text-free : r ≡ false → Bytes ≡ toldText c k s
+    text-free t = rw (sym e ∙ t)
 
 module _ (s : List ℕ) (r : Bool) (e : r ≡ isDate s) where
   pub date-good : r ≡ true → Bytes ≡ toldDate s
@@ -203,13 +219,9 @@ told-date false s = refl
 
 module _ (c : Context) (t : FieldType) (s : List ℕ) where
   module _ (q : Bool) where
-    pub field-text : t ≡ T → Bytes ≡ told (readField c t (field q s))
+    pub field-text : (k : Texts) (r : FieldReply) → t ≡ T k → r ≡ toldText c k s → r ≡ told (readField c t (field q s))
     unfolding readField
-    field-text h = rw h
-
-    pub field-reference : (r : FieldReply) → t ≡ Ref → r ≡ toldReference c s → r ≡ told (readField c t (field q s))
-    unfolding readField meaning
-    field-reference r h e = rw h (e ∙ told-test (barred c s) s)
+    field-text k r h e = rw h (e ∙ told-test (barred c k (meaning (T k) s)) (meaning (T k) s))
 
   module _ (r : FieldReply) where
     pub field-date : t ≡ D → r ≡ toldDate s → r ≡ told (readField c t (field false s))

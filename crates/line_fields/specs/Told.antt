@@ -9,12 +9,14 @@ use Rattle.law.specs.Values.{Value, number, word, text}
 use Rattle.form.specs.Values.{Reply, good, refused}
 use Rattle.law.specs.Words.{wordsOf}
 use Rattle.form.specs.Compare.{placeOf}
-use Rattle.law.specs.Fits.{kept, largest, barred}
+use Rattle.law.specs.Fits.{kept, largest, meaning, barred}
 use Rattle.form.specs.Reading.{ofCount, ofInteger, ofPlace}
 use Rattle.law.specs.declared.Rules.{Rules}
 use Rattle.law.specs.declared.Context.{Context}
 use Rattle.law.specs.declared.Words.{Words}
 use Rattle.law.specs.declared.Limit.{Limit}
+use Rattle.law.specs.declared.Texts.{Texts}
+use Rattle.law.specs.declared.FieldType.the-variants.{Text}
 use Rattle.line_fields.specs.declared.FieldReply.{FieldReply}
 use Rattle.line_fields.specs.declared.FieldReply.the-variants.{Number, Word, Bytes, Refused}
 
@@ -35,8 +37,8 @@ toldInteger s = told (ofInteger (readInteger s))
 abbrev pub toldWord : Rules → Words → List ℕ → FieldReply
 toldWord v l s = told (ofPlace (placeOf (wordsOf v l) s))
 
-abbrev pub toldReference : Context → List ℕ → FieldReply
-toldReference c s = cond (barred c s) (Refused 9) Bytes
+abbrev pub toldText : Context → Texts → List ℕ → FieldReply
+toldText c k s = cond (barred c k (meaning (Text k) s)) (Refused 9) Bytes
 
 abbrev pub toldDate : List ℕ → FieldReply
 toldDate s = cond (isDate s) Bytes (Refused 9)

@@ -5,6 +5,7 @@ use law::FieldType;
 use law::FileType;
 use law::Limit;
 use law::Rules;
+use law::Texts;
 use law::Words;
 use law::refusals;
 use number::Angle;
@@ -20,11 +21,12 @@ ghost use lib.IntN.{natAbs};
 ghost use Rattle.law.specs.Fields.{field};
 ghost use Rattle.law.specs.Limits.{largestLength, largestAngle, inTurn};
 ghost use Rattle.law.specs.Values.{number};
-ghost use Rattle.law.specs.Fits.{above, versionOf, isVersion, kept, largest, fits, isBoard, barred};
-ghost use Rattle.law.specs.declared.FieldType.the-variants.{Number};
+ghost use Rattle.law.specs.Fits.{above, versionOf, isVersion, kept, largest, fits, isBoard, meaning, barred};
+ghost use Rattle.law.specs.declared.Texts.the-variants.{Reference};
+ghost use Rattle.law.specs.declared.FieldType.the-variants.{Text, Number};
 ghost use Rattle.form.specs.Fits.{beyond};
 ghost use Rattle.form.specs.Reading.{readField};
-ghost use Rattle.line_fields.specs.Told.{told, toldCount, toldInteger, toldWord, toldReference, toldDate};
+ghost use Rattle.line_fields.specs.Told.{told, toldCount, toldInteger, toldWord, toldText, toldDate};
 
 // What a field reads as: a number, a word's place, bytes as they stand, or the number of a refusal.
 pub enum FieldReply {
@@ -187,9 +189,9 @@ fn is_board(f: FileType) -> bool
     }
 }
 
-// Whether bytes are BOARD, in a board.
-pub fn is_barred(c: Context, s: &[u8]) -> bool
-    ensures { λ r. ⌜ r ≡ barred c (now (s .entry)) ⌝ }
+// Whether a reference is BOARD, in a board.
+fn bars_reference(c: Context, s: &[u8]) -> bool
+    ensures { λ r. ⌜ r ≡ barred c Reference (meaning (Text Reference) (now (s .entry))) ⌝ }
 {
     let f = c.file;
     if is_board(f) {
@@ -198,11 +200,22 @@ pub fn is_barred(c: Context, s: &[u8]) -> bool
     false
 }
 
-// A reference: BOARD is none in a board.
-fn reference_field(c: Context, s: &[u8]) -> FieldReply
-    ensures { λ r. ⌜ r ≡ toldReference c (now (s .entry)) ⌝ }
+// Whether a text may not stand at its field: BOARD is no reference in a board.
+pub fn is_barred(c: Context, k: Texts, s: &[u8]) -> bool
+    ensures { λ r. ⌜ r ≡ barred c k (meaning (Text k) (now (s .entry))) ⌝ }
 {
-    if is_barred(c, s) {
+    match k {
+        Texts::Plain => false,
+        Texts::Reference => bars_reference(c, s),
+        Texts::Hole => false,
+    }
+}
+
+// A text.
+fn text_field(c: Context, k: Texts, s: &[u8]) -> FieldReply
+    ensures { λ r. ⌜ r ≡ toldText c k (now (s .entry)) ⌝ }
+{
+    if is_barred(c, k, s) {
         FieldReply::Refused(refusals::WRONG_WORD)
     } else {
         FieldReply::Bytes
@@ -225,8 +238,7 @@ fn bare_field(c: Context, t: FieldType, s: &[u8]) -> FieldReply
     ensures { λ r. ⌜ r ≡ told (readField c t (field false (now (s .entry)))) ⌝ }
 {
     match t {
-        FieldType::Text => FieldReply::Bytes,
-        FieldType::Reference => reference_field(c, s),
+        FieldType::Text(k) => text_field(c, k, s),
         FieldType::Date => date_field(s),
         FieldType::Integer => integer_field(s),
         FieldType::Number(l) => count_field(c, l, s),
@@ -242,8 +254,7 @@ fn quoted_field(c: Context, t: FieldType, s: &[u8]) -> FieldReply
     ensures { λ r. ⌜ r ≡ told (readField c t (field true (now (s .entry)))) ⌝ }
 {
     match t {
-        FieldType::Text => FieldReply::Bytes,
-        FieldType::Reference => reference_field(c, s),
+        FieldType::Text(k) => text_field(c, k, s),
         FieldType::Date => FieldReply::Refused(refusals::WRONG_WORD),
         FieldType::Integer => FieldReply::Refused(refusals::NO_NUMBER),
         FieldType::Number(_) => FieldReply::Refused(refusals::NO_NUMBER),

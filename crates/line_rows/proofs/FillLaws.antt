@@ -43,7 +43,7 @@ use Rattle.law.specs.declared.Words.{Words}
 use Rattle.law.specs.declared.Words.the-variants.{FileTypes, Units, Owners, Faces, Sides, Layers, Plates, Statuses}
 use Rattle.law.specs.declared.Limit.{Limit}
 use Rattle.law.specs.declared.FieldType.{FieldType}
-use Rattle.law.specs.declared.FieldType.the-variants.{Text as T, Reference as Ref, Date as D, Integer as I, Number as N, Word as W}
+use Rattle.law.specs.declared.FieldType.the-variants.{Text as T, Date as D, Integer as I, Number as N, Word as W}
 use Rattle.law.specs.Rows.{width}
 use Rattle.line_rows.specs.Rows.{entryOf, entryBy, entryAt, fillingAt, fillingOf, putOne, putRefused, putEntry, FieldRoom, fillFrom}
 use Rattle.line_rows.specs.declared.Entry.{Entry}
@@ -103,8 +103,7 @@ wide-word v l s (some n) e = (refl, omega (arith, place-below (wordsOf v l) s n 
 
 wide : (c : Context) (t : FieldType) (f : Field) → Wide t (readField c t f)
 unfolding readField
-wide c T (field q s) = refl
-wide c Ref (field q s) = wide-unless Ref (barred c (meaning Ref s)) (good (text (meaning Ref s))) 9 refl
+wide c (T k) (field q s) = wide-unless (T k) (barred c k (meaning (T k) s)) (good (text (meaning (T k) s))) 9 refl
 wide c D (field true s) = tt
 wide c D (field false s) = wide-by D (isDate s) (good (text s)) 9 refl
 wide c I (field true s) = tt

@@ -10,17 +10,9 @@ use lib.Seq.{drop-append-add, drop-append-le, take-append-le, length-take-le}
 use Rattle.law.specs.Values.{Value}
 use Rattle.form_layouts.specs.Letters.{widthOf, widths}
 use Rattle.law.specs.declared.FieldType.{FieldType}
-use Rattle.law.specs.declared.FieldType.the-variants.{Text as T, Reference as Ref, Date as D, Integer as I, Number as N, Word as W}
-use Rattle.law.specs.Rows.{isText, isNumber, Means, none, aNumber, aWord, aDate, aText}
+use Rattle.law.specs.declared.FieldType.the-variants.{Text as T, Date as D, Integer as I, Number as N, Word as W}
+use Rattle.law.specs.Rows.{isNumber, Means, none, aNumber, aWord, aDate, aText}
 use Rattle.line_rows.specs.Meaning.{Part}
-
-pub not-both : (t : FieldType) → isNumber t ≡ true → isText t ≡ true → ⊥
-not-both T h i = false≢true h
-not-both Ref h i = false≢true h
-not-both D h i = false≢true h
-not-both I h i = false≢true i
-not-both (N l) h i = false≢true i
-not-both (W l) h i = false≢true h
 
 -- columns mean one list of values
 pub means-one : {file : List ℕ} {ts : List FieldType} {cs : List ℤ} {vs us : List Value} → Means file ts cs vs → Means file ts cs us → vs ≡ us
@@ -28,33 +20,20 @@ means-one none none = refl
 means-one (aNumber h x) (aNumber i y) = rw (means-one x y)
 means-one (aNumber h x) (aWord y) = absurd (false≢true h)
 means-one (aNumber h x) (aDate j y) = absurd (false≢true h)
-means-one (aNumber {t = t} h x) (aText i j y) = absurd (not-both t h i)
+means-one (aNumber h x) (aText j y) = absurd (false≢true h)
 means-one (aWord x) (aNumber i y) = absurd (false≢true i)
 means-one (aWord x) (aWord y) = rw (means-one x y)
-means-one (aWord x) (aText i j y) = absurd (false≢true i)
 means-one (aDate g x) (aNumber i y) = absurd (false≢true i)
 means-one (aDate g x) (aDate j y) = rw (means-one x y)
-means-one (aDate g x) (aText i j y) = absurd (false≢true i)
-means-one (aText {t = t} h g x) (aNumber i y) = absurd (not-both t i h)
-means-one (aText h g x) (aWord y) = absurd (false≢true h)
-means-one (aText h g x) (aDate j y) = absurd (false≢true h)
-means-one (aText h g x) (aText i j y) = rw (means-one x y)
+means-one (aText g x) (aNumber i y) = absurd (false≢true i)
+means-one (aText g x) (aText j y) = rw (means-one x y)
 
 pub number-wide : (t : FieldType) → isNumber t ≡ true → widthOf t ≡ 1
-number-wide T h = absurd (false≢true h)
-number-wide Ref h = absurd (false≢true h)
+number-wide (T k) h = absurd (false≢true h)
 number-wide D h = absurd (false≢true h)
 number-wide I h = refl
 number-wide (N l) h = refl
 number-wide (W l) h = refl
-
-pub text-wide : (t : FieldType) → isText t ≡ true → widthOf t ≡ 2
-text-wide T h = refl
-text-wide Ref h = refl
-text-wide D h = refl
-text-wide I h = absurd (false≢true h)
-text-wide (N l) h = absurd (false≢true h)
-text-wide (W l) h = absurd (false≢true h)
 
 -- as many columns as the types have
 pub means-wide : {file : List ℕ} {ts : List FieldType} {cs : List ℤ} {vs : List Value} → Means file ts cs vs → length cs ≡ widths ts
@@ -63,7 +42,7 @@ means-wide none = refl
 means-wide (aNumber {t = t} h x) = omega (arith, number-wide t h, means-wide x)
 means-wide (aWord x) = omega (arith, means-wide x)
 means-wide (aDate g x) = omega (arith, means-wide x)
-means-wide (aText {t = t} h g x) = omega (arith, text-wide t h, means-wide x)
+means-wide (aText g x) = omega (arith, means-wide x)
 
 -- Parts of a file
 

@@ -38,7 +38,7 @@ use Rattle.law.specs.declared.Words.{Words}
 use Rattle.law.specs.declared.Limit.{Limit}
 use Rattle.law.specs.declared.Limit.the-variants.{Length as L, NotBelow as L0, Above as Lp, Included as A, Rotation as R, Version as Ver}
 use Rattle.law.specs.declared.FieldType.{FieldType}
-use Rattle.law.specs.declared.FieldType.the-variants.{Text as T, Reference as Ref, Date as D, Integer as I, Number as N, Word as W}
+use Rattle.law.specs.declared.FieldType.the-variants.{Text as T, Date as D, Integer as I, Number as N, Word as W}
 use Rattle.line_rows.specs.Rows.{entryOf, entryBy, entryAt, putOne, putEntry, begun, fillFrom, filled}
 use Rattle.law.specs.Rows.{Means, none as noColumns, aNumber, aWord, aDate, aText}
 use Rattle.line_rows.specs.Meaning.{Refuses, Agrees, Part}
@@ -97,8 +97,7 @@ module _ (file : List ℕ) (a l : ℕ) (inside : a + l ≤ length file) where
   -- what a field reads as, where its bytes stand in the file
   fores : (c : Context) (t : FieldType) (q : Bool) → Fores file t a l (readField c t (field q (take l (drop a file))))
   unfolding readField
-  fores c T q = record { wide = refl; means = λ r. aText refl inside r }
-  fores c Ref q = fores-unless Ref (barred c (meaning Ref (take l (drop a file)))) (text (meaning Ref (take l (drop a file)))) 9 (λ h. omega arith) (record { wide = refl; means = λ r. aText refl inside r })
+  fores c (T k) q = fores-unless (T k) (barred c k (meaning (T k) (take l (drop a file)))) (text (meaning (T k) (take l (drop a file)))) 9 (λ h. omega arith) (record { wide = refl; means = λ r. aText inside r })
   fores c D true = λ h. omega arith
   fores c D false = fores-by D (isDate (take l (drop a file))) (text (take l (drop a file))) 9 (λ h. omega arith) (record { wide = refl; means = λ r. aDate inside r })
   fores c I true = λ h. omega arith

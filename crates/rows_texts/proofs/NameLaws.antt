@@ -12,6 +12,8 @@ use Rattle.basics.proofs.Bytes.{bytes-true}
 use Rattle.basics.proofs.Integers.{back}
 use Rattle.names_slots.specs.Hashes.{hashed}
 use Rattle.rows.specs.Columns.{geometryStart, geometryLength, partStart, partLength, referenceStart, referenceLength}
+use Rattle.law.specs.declared.Texts.the-variants.{Reference}
+use Rattle.law.specs.declared.FieldType.the-variants.{Text}
 use Rattle.rows_texts.specs.Texts.{textAt, textIs, sameTexts}
 use Rattle.rows_texts.specs.Names.{geometryIn, partIn, sameGeometry, samePart, sameNames, keyOf, refers}
 
@@ -50,6 +52,6 @@ same-key f x h y e =
     ap (λ (s : List ℕ). hashed (hashed 0 s) (partIn f x)) a ∙ ap (λ (s : List ℕ). hashed (hashed 0 (geometryIn h y)) s) b
 
 pub refers-by : (board : List ℕ) (x : List ℤ) (word : List ℕ) (r : Bool) → SFits w64 (referenceStart x) → SFits w64 (referenceLength x)
-    → r ≡ textIs board (back (referenceStart x)) (back (referenceLength x)) word → r ≡ refers board x word
+    → r ≡ textIs (Text Reference) board (back (referenceStart x)) (back (referenceLength x)) word → r ≡ refers board x word
 unfolding refers
 refers-by board x word r f g e = e ∙ rw (toZ-ofZ w64 (referenceStart x) f, toZ-ofZ w64 (referenceLength x) g)

@@ -17,7 +17,9 @@ use Rattle.basics.proofs.Integers.{back}
 use Rattle.basics.proofs.Lists.{at-end}
 use Rattle.law.specs.Words.{sameBytes}
 use Rattle.names_slots.specs.Hashes.{hashed}
-use Rattle.rows_texts.specs.Texts.{textAt, textIs, sameTexts}
+use Rattle.rows_texts.specs.Texts.{textAt, textIs, sameMeanings, sameTexts}
+use Rattle.law.specs.declared.FieldType.{FieldType}
+use Rattle.basics.proofs.Meanings.{itself}
 
 -- the smaller of two numbers
 pub smaller-first : (a b : ℕ) → a < b → a ≡ min a b
@@ -66,12 +68,18 @@ module _ (file : List ℕ) (i j : ℤ) (t : List ℕ) (e : t ≡ textAt file (ba
   text-back : t ≡ textAt file i j
   text-back = e ∙ rw (toZ-ofZ w64 i f1, toZ-ofZ w64 j f2)
 
-  pub text-by : (word : List ℕ) (x : Bool) → x ≡ sameBytes t word → x ≡ textIs file i j word
+  pub text-by : (y : FieldType) (word : List ℕ) (x : Bool) → x ≡ sameBytes t word → x ≡ textIs y file i j word
   unfolding textIs
-  text-by word x h = h ∙ ap (λ (s : List ℕ). sameBytes s word) text-back
+  text-by y word x h = h ∙ ap (λ (s : List ℕ). sameBytes s word) (text-back ∙ sym (itself y (textAt file i j)))
 
   pub hash-by : (h r : ℕ) → r ≡ hashed h t → r ≡ hashed h (textAt file i j)
   hash-by h r g = g ∙ ap (hashed h) text-back
+
+-- while a text means its own bytes
+pub meanings-by : (y : FieldType) (f h : List ℕ) (i j k l : ℤ) (x : Bool) → SFits w64 i → SFits w64 j → SFits w64 k → SFits w64 l
+    → x ≡ sameTexts f (back i) (back j) h (back k) (back l) → x ≡ sameMeanings y f i j h k l
+unfolding sameTexts sameMeanings
+meanings-by y f h i j k l x f1 f2 f3 f4 g = g ∙ rw (toZ-ofZ w64 i f1, toZ-ofZ w64 j f2, toZ-ofZ w64 k f3, toZ-ofZ w64 l f4, itself y (textAt f i j), itself y (textAt h k l))
 
 pub texts-by : (f h : List ℕ) (i j k l : ℤ) (t u : List ℕ) (x : Bool) → t ≡ textAt f (back i) (back j) → u ≡ textAt h (back k) (back l)
     → SFits w64 i → SFits w64 j → SFits w64 k → SFits w64 l → x ≡ sameBytes t u → x ≡ sameTexts f i j h k l

@@ -3,6 +3,8 @@ use Prim.Native.Nat.{ℕ}
 use mathlib.Core.List.{List}
 use mathlib.Core.Bool.{Bool, _&&_}
 use lib.IntN.{ℤ}
+use Rattle.law.specs.declared.Texts.the-variants.{Reference}
+use Rattle.law.specs.declared.FieldType.the-variants.{Text}
 use Rattle.names_slots.specs.Hashes.{hashed}
 use Rattle.rows.specs.Columns.{geometryStart, geometryLength, partStart, partLength, referenceStart, referenceLength}
 use Rattle.rows_texts.specs.Texts.{textAt, textIs, sameTexts}
@@ -32,6 +34,6 @@ sameNames f x h y = sameGeometry f x h y && samePart f x h y
 unfoldable pub keyOf : List ℕ → List ℤ → ℕ
 keyOf file x = hashed (hashed 0 (geometryIn file x)) (partIn file x)
 
--- a placement's reference has these bytes
+-- a placement's reference means these bytes
 unfoldable pub refers : List ℕ → List ℤ → List ℕ → Bool
-refers board x word = textIs board (referenceStart x) (referenceLength x) word
+refers board x word = textIs (Text Reference) board (referenceStart x) (referenceLength x) word

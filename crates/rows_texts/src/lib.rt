@@ -1,4 +1,6 @@
 // Texts of files as rows name them, each by its start and length, and what they name; what lies past a file's end is left off.
+use law::FieldType;
+use law::Texts;
 use rows::GEOMETRY;
 use rows::GEOMETRY_LEN;
 use rows::PART_NUMBER;
@@ -9,7 +11,7 @@ use rows::WIDTH;
 ghost use mathlib.Core.Path.{_≡_};
 ghost use Prim.Native.Nat.{min};
 ghost use Rattle.names_slots.specs.Hashes.{hashed};
-ghost use Rattle.rows_texts.specs.Texts.{textAt, textIs, sameTexts};
+ghost use Rattle.rows_texts.specs.Texts.{textAt, textIs, sameMeanings, sameTexts};
 ghost use Rattle.rows_texts.specs.Names.{sameGeometry, samePart, sameNames, keyOf, refers};
 
 // The smaller of two numbers.
@@ -28,9 +30,9 @@ fn text(file: &[u8], start: i64, len: i64) -> &[u8]
     &file[a..a + n]
 }
 
-// Whether a text of a file has these bytes.
-pub fn text_is(file: &[u8], start: i64, len: i64, word: &[u8]) -> bool
-    ensures { λ r. ⌜ r ≡ textIs (now (file .entry)) start len (now (word .entry)) ⌝ }
+// Whether a text of a file means these bytes at a field of a type.
+pub fn text_is(t: FieldType, file: &[u8], start: i64, len: i64, word: &[u8]) -> bool
+    ensures { λ r. ⌜ r ≡ textIs t (now (file .entry)) start len (now (word .entry)) ⌝ }
 {
     basics::same_bytes(text(file, start, len), word)
 }
@@ -40,6 +42,21 @@ pub fn same_texts(first: &[u8], start: i64, len: i64, second: &[u8], other: i64,
     ensures { λ r. ⌜ r ≡ sameTexts (now (first .entry)) start len (now (second .entry)) other size ⌝ }
 {
     basics::same_bytes(text(first, start, len), text(second, other, size))
+}
+
+// Whether texts of two files mean the same at a field of a type.
+pub fn same_meanings(
+    t: FieldType,
+    first: &[u8],
+    start: i64,
+    len: i64,
+    second: &[u8],
+    other: i64,
+    size: i64,
+) -> bool
+    ensures { λ r. ⌜ r ≡ sameMeanings t (now (first .entry)) start len (now (second .entry)) other size ⌝ }
+{
+    same_texts(first, start, len, second, other, size)
 }
 
 // The hash of a text behind what gave h.
@@ -95,9 +112,15 @@ pub fn hash_name(file: &[u8], x: [i64; WIDTH]) -> u64
     hash_text(h, file, x[PART_NUMBER], x[PART_NUMBER_LEN])
 }
 
-// Whether a placement has this reference.
+// Whether a placement's reference means this.
 pub fn refers(board: &[u8], x: [i64; WIDTH], word: &[u8]) -> bool
     ensures { λ r. ⌜ r ≡ refers (now (board .entry)) x (now (word .entry)) ⌝ }
 {
-    text_is(board, x[REFERENCE], x[REFERENCE_LEN], word)
+    text_is(
+        FieldType::Text(Texts::Reference),
+        board,
+        x[REFERENCE],
+        x[REFERENCE_LEN],
+        word,
+    )
 }

@@ -15,28 +15,17 @@ use Rattle.basics.proofs.Integers.{back}
 use Rattle.rows.proofs.ColumnLaws.{column}
 use Rattle.rows.specs.Columns.{columnAt, kindColumn}
 use Rattle.basics.specs.Integers.{eqZ}
-use Rattle.law.specs.Fits.{meaning}
 use Rattle.law.specs.Layouts.{typesOf}
 use Rattle.form_layouts.specs.Letters.{widthOf, widths, typeAt}
 use Rattle.law.specs.declared.Rules.the-variants.{Idf3}
 use Rattle.law.specs.declared.FieldType.{FieldType}
-use Rattle.law.specs.declared.FieldType.the-variants.{Text as T, Reference as Ref, Date as D, Integer as I, Number as N, Word as W}
+use Rattle.law.specs.declared.FieldType.the-variants.{Text as T, Date as D, Integer as I, Number as N, Word as W}
 use Rattle.form_layouts.proofs.KindLaws.{seven, nine, type-here, widths-here}
 use Rattle.law.specs.Rows.{width}
-use Rattle.rows_texts.specs.Texts.{textAt, sameTexts}
+use Rattle.rows_texts.specs.Texts.{sameMeanings}
 use Rattle.same.specs.declared.Ignored.{Ignored}
 use Rattle.same.specs.Ignoring.{ignoredAt}
-use Rattle.same.specs.SameRows.{holdsBytes, countsAs, sameField, agreesAt, sameFrom, sameFields, sameRow}
-
--- bytes count as themselves
-pub counts-itself : (t : FieldType) (s : List ℕ) → countsAs t s ≡ s
-unfolding meaning
-counts-itself T s = refl
-counts-itself Ref s = refl
-counts-itself D s = refl
-counts-itself I s = refl
-counts-itself (N l) s = refl
-counts-itself (W l) s = refl
+use Rattle.same.specs.SameRows.{holdsBytes, sameField, agreesAt, sameFrom, sameFields, sameRow}
 
 -- the first columns of what is left of a row
 first-column : (x : List ℤ) (c : ℕ) → columnAt (drop c x) 0 ≡ columnAt x c
@@ -46,16 +35,14 @@ second-column : (x : List ℤ) (c : ℕ) → columnAt (drop c x) 1 ≡ columnAt 
 second-column x c = getD-drop c x 1 (pos 0)
 
 wide-bytes : (t : FieldType) → holdsBytes t ≡ true → widthOf t ≡ 2
-wide-bytes T h = refl
-wide-bytes Ref h = refl
+wide-bytes (T k) h = refl
 wide-bytes D h = refl
 wide-bytes I h = absurd (false≢true h)
 wide-bytes (N l) h = absurd (false≢true h)
 wide-bytes (W l) h = absurd (false≢true h)
 
 wide-some : (t : FieldType) → 1 ≤ widthOf t
-wide-some T = omega arith
-wide-some Ref = omega arith
+wide-some (T k) = omega arith
 wide-some D = omega arith
 wide-some I = omega arith
 wide-some (N l) = omega arith
@@ -74,13 +61,11 @@ module _ (t : FieldType) (c : ℕ) (r : c + widthOf t ≤ width) where
 
 module _ (t : FieldType) (f : List ℕ) (x : List ℤ) (h : List ℕ) (y : List ℤ) (c : ℕ) (p q : Bool) (e : p ≡ holdsBytes t) (f0 : SFits w64 (columnAt x c)) (g0 : SFits w64 (columnAt y c)) where
   pub field-bytes : p ≡ true → SFits w64 (columnAt x (c + 1)) → SFits w64 (columnAt y (c + 1))
-      → q ≡ sameTexts f (column x c) (column x (c + 1)) h (column y c) (column y (c + 1)) → q ≡ sameField t f (drop c x) h (drop c y)
-  unfolding sameField sameTexts
+      → q ≡ sameMeanings t f (column x c) (column x (c + 1)) h (column y c) (column y (c + 1)) → q ≡ sameField t f (drop c x) h (drop c y)
+  unfolding sameField sameMeanings
   field-bytes i f1 g1 j =
       j ∙ rw (
         sym e ∙ i,
-        counts-itself t (textAt f (columnAt (drop c x) 0) (columnAt (drop c x) 1)),
-        counts-itself t (textAt h (columnAt (drop c y) 0) (columnAt (drop c y) 1)),
         first-column x c,
         first-column y c,
         second-column x c,

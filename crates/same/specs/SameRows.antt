@@ -6,40 +6,28 @@ use lib.IntN.{ℤ, natAbs}
 use lib.ListN.{drop}
 use Rattle.rows.specs.Columns.{columnAt, kindColumn}
 use Rattle.basics.specs.Integers.{eqZ}
-use Rattle.law.specs.Words.{sameBytes}
-use Rattle.law.specs.Fits.{meaning}
 use Rattle.law.specs.Layouts.{typesOf}
 use Rattle.form_layouts.specs.Letters.{widthOf}
 use Rattle.law.specs.declared.Rules.the-variants.{Idf3}
 use Rattle.law.specs.declared.FieldType.{FieldType}
-use Rattle.law.specs.declared.FieldType.the-variants.{Text as T, Reference as Ref, Date as D, Integer as I, Number as N, Word as W}
-use Rattle.rows_texts.specs.Texts.{textAt}
+use Rattle.law.specs.declared.FieldType.the-variants.{Text as T, Date as D, Integer as I, Number as N, Word as W}
+use Rattle.rows_texts.specs.Texts.{sameMeanings}
 use Rattle.same.specs.Ignoring.{ignoredAt}
 use Rattle.same.specs.declared.Ignored.{Ignored}
 
 -- fields that are held as bytes of the file; all others are held in the row itself
 abbrev pub holdsBytes : FieldType → Bool
-holdsBytes T = true
-holdsBytes Ref = true
+holdsBytes (T k) = true
 holdsBytes D = true
 holdsBytes I = false
 holdsBytes (N l) = false
 holdsBytes (W l) = false
 
--- what the bytes of a field count as: a text what it means at its field, a date itself
-abbrev pub countsAs : FieldType → List ℕ → List ℕ
-countsAs T s = meaning T s
-countsAs Ref s = meaning Ref s
-countsAs D s = s
-countsAs I s = s
-countsAs (N l) s = s
-countsAs (W l) s = s
-
--- a field of type t at the front of what is left of two rows: numbers and words by their column, texts and dates by their bytes
+-- a field of type t at the front of what is left of two rows: numbers and words by their column, texts and dates by what their bytes mean
 unfoldable pub sameField : FieldType → List ℕ → List ℤ → List ℕ → List ℤ → Bool
 sameField t f xs h ys =
     cond (holdsBytes t)
-    (sameBytes (countsAs t (textAt f (columnAt xs 0) (columnAt xs 1))) (countsAs t (textAt h (columnAt ys 0) (columnAt ys 1))))
+    (sameMeanings t f (columnAt xs 0) (columnAt xs 1) h (columnAt ys 0) (columnAt ys 1))
     (eqZ (columnAt xs 0) (columnAt ys 0))
 
 -- field i of records of kind k is left out or the same

@@ -16,8 +16,7 @@ fn holds_bytes(t: FieldType) -> bool
     ensures { λ r. ⌜ r ≡ holdsBytes t ⌝ }
 {
     match t {
-        FieldType::Text => true,
-        FieldType::Reference => true,
+        FieldType::Text(_) => true,
         FieldType::Date => true,
         FieldType::Integer => false,
         FieldType::Number(_) => false,
@@ -38,7 +37,7 @@ fn same_field(
     ensures { λ r. ⌜ r ≡ sameField t (now (first .entry)) (drop at x) (now (second .entry)) (drop at y) ⌝ }
 {
     if holds_bytes(t) {
-        return rows_texts::same_texts(first, x[at], x[at + 1], second, y[at], y[at + 1]);
+        return rows_texts::same_meanings(t, first, x[at], x[at + 1], second, y[at], y[at + 1]);
     }
     basics::same_integers(x[at], y[at])
 }

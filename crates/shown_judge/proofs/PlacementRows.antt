@@ -16,8 +16,10 @@ use Rattle.law.specs.Kinds.{sectionOf, lineOf, partKind}
 use Rattle.law.specs.Layouts.{layoutOf, typesOf}
 use Rattle.law.specs.Fits.{meaning}
 use Rattle.law.specs.declared.Rules.the-variants.{Idf3}
+use Rattle.law.specs.declared.Texts.the-variants.{Plain, Reference}
 use Rattle.law.specs.declared.FieldType.{FieldType}
-use Rattle.law.specs.declared.FieldType.the-variants.{Text as T, Reference as Ref}
+use Rattle.basics.proofs.Meanings.{plain-meaning}
+use Rattle.law.specs.declared.FieldType.the-variants.{Text as T}
 use Rattle.law.specs.Rows.{Means, none, aNumber, aText, Holds}
 use Rattle.law.specs.Records.{Named, namesAComponent, nameIn}
 use Rattle.order.specs.Automaton.{sameName}
@@ -55,19 +57,18 @@ module _ (board library : List ℕ) (x : List ℤ) (k : ℕ) (c : namesAComponen
 -- Placements: three texts
 
 abbrev placementAt : List ℕ → List ℤ → Placement
-placementAt file x = record { name = nameAt file x; reference = referenceIn file x }
+placementAt file x = record { name = nameAt file x; reference = meaning (T Reference) (referenceIn file x) }
 
-part-types : typesOf Idf3 partKind ≡ T ∷ T ∷ Ref ∷ []
+part-types : typesOf Idf3 partKind ≡ T Plain ∷ T Plain ∷ T Reference ∷ []
 unfolding typesOf layoutOf sectionOf lineOf sections
 part-types = refl
 
-placement-columns : {file : List ℕ} (zs : List ℤ) {cs : List ℤ} {vs : List Value} → Means file (T ∷ T ∷ Ref ∷ []) cs vs
+placement-columns : {file : List ℕ} (zs : List ℤ) {cs : List ℤ} {vs : List Value} → Means file (T Plain ∷ T Plain ∷ T Reference ∷ []) cs vs
     → placementAt file (pos partKind ∷ (cs ++ zs)) ≡ placementIn (record { kind = partKind; values = vs })
-unfolding meaning
 placement-columns zs (aNumber h m) = absurd (false≢true h)
-placement-columns zs (aText h p (aNumber i m)) = absurd (false≢true i)
-placement-columns zs (aText h p (aText i q (aNumber j m))) = absurd (false≢true j)
-placement-columns zs (aText h p (aText i q (aText j r none))) = refl
+placement-columns zs (aText p (aNumber i m)) = absurd (false≢true i)
+placement-columns zs (aText p (aText q (aNumber j m))) = absurd (false≢true j)
+placement-columns zs (aText p (aText q (aText r none))) = rw (plain-meaning _, plain-meaning _)
 
 placement-held : (file : List ℕ) (k : ℕ) (x : List ℤ) (vs : List Value) → k ≡ partKind → Holds file k (typesOf Idf3 k) x vs → placementAt file x ≡ placementIn (record { kind = k; values = vs })
 placement-held file k x vs e h =

@@ -8,19 +8,21 @@ use borrow.Author.Tests.{not-true}
 use Rattle.basics.proofs.Bools.{both}
 use Rattle.law.specs.Limits.{largestLength}
 use Rattle.law.specs.Values.{Value, number, word, text}
-use Rattle.law.specs.Fits.{under, within, fits, fitsAll}
+use Rattle.law.specs.Fits.{under, within, barred, fits, fitsAll}
 use Rattle.law.specs.declared.Rules.{Rules}
 use Rattle.law.specs.declared.FileType.{FileType}
 use Rattle.law.specs.declared.Context.{Context}
 use Rattle.law.specs.declared.Limit.{Limit}
 use Rattle.law.specs.declared.Limit.the-variants.{Length, NotBelow, Above, Included, Rotation, Version}
+use Rattle.law.specs.declared.Texts.the-variants.{Plain, Reference, Hole}
 use Rattle.law.specs.declared.FieldType.{FieldType}
-use Rattle.law.specs.declared.FieldType.the-variants.{Text, Reference, Date, Integer, Number, Word}
+use Rattle.law.specs.declared.FieldType.the-variants.{Text, Date, Integer, Number, Word}
 
 -- BOARD as reference occurs only in a panel: only a reference depends on the file's type
 abbrev isReference : FieldType → Bool
-isReference Text = false
-isReference Reference = true
+isReference (Text Plain) = false
+isReference (Text Reference) = true
+isReference (Text Hole) = false
 isReference Date = false
 isReference Integer = false
 isReference (Number l) = false
@@ -32,8 +34,7 @@ noReference (t ∷ ts) = not (isReference t) && noReference ts
 
 -- a length without a limit on its sign
 abbrev isLength : FieldType → Bool
-isLength Text = false
-isLength Reference = false
+isLength (Text k) = false
 isLength Date = false
 isLength Integer = false
 isLength (Number Length) = true
@@ -70,11 +71,12 @@ module _ (v : Rules) (t u : FileType) where
   within-any Version z = refl
 
   fits-any : (f : FieldType) (x : Value) → isReference f ≡ false → fits (under v t) f x ≡ fits (under v u) f x
-  unfolding fits
-  fits-any Text (number z) h = refl
-  fits-any Text (word n) h = refl
-  fits-any Text (text s) h = refl
-  fits-any Reference x h = absurd (false≢true (sym h))
+  unfolding fits barred
+  fits-any (Text k) (number z) h = refl
+  fits-any (Text k) (word n) h = refl
+  fits-any (Text Plain) (text s) h = refl
+  fits-any (Text Reference) (text s) h = absurd (false≢true (sym h))
+  fits-any (Text Hole) (text s) h = refl
   fits-any Date (number z) h = refl
   fits-any Date (word n) h = refl
   fits-any Date (text s) h = refl
@@ -111,8 +113,7 @@ module _ (c : Context) where
 
   length-fits : (f : FieldType) (z : ℤ) → leb (natAbs z) largestLength ≡ true → isLength f ≡ true → fits c f (number z) ≡ true
   unfolding fits within
-  length-fits Text z e h = absurd (false≢true h)
-  length-fits Reference z e h = absurd (false≢true h)
+  length-fits (Text k) z e h = absurd (false≢true h)
   length-fits Date z e h = absurd (false≢true h)
   length-fits Integer z e h = absurd (false≢true h)
   length-fits (Number Length) z e h = rw e

@@ -25,8 +25,9 @@ use Rattle.law.specs.declared.FileType.the-variants.{Board as board, Panel as p
 use Rattle.law.specs.declared.Context.{Context}
 use Rattle.law.specs.declared.Limit.{Limit}
 use Rattle.law.specs.declared.Limit.the-variants.{Length, NotBelow, Above, Included, Rotation, Version}
+use Rattle.law.specs.declared.Texts.the-variants.{Plain, Reference, Hole}
 use Rattle.law.specs.declared.FieldType.{FieldType}
-use Rattle.law.specs.declared.FieldType.the-variants.{Text, Reference, Date, Integer, Number, Word}
+use Rattle.law.specs.declared.FieldType.the-variants.{Text, Date, Integer, Number, Word}
 use Rattle.law.specs.Records.{shapeOf, Place, labelOf, placeOf, angleOf, namesAComponent}
 use Rattle.order.specs.Places.{pointLine}
 use Rattle.order.specs.Automaton.{isRole}
@@ -48,8 +49,9 @@ sampleNumber v Version = pos (versionOf v)
 
 -- texts are w throughout
 abbrev sampleValue : Rules → List ℕ → FieldType → Value
-sampleValue v w Text = text w
-sampleValue v w Reference = text []
+sampleValue v w (Text Plain) = text w
+sampleValue v w (Text Reference) = text []
+sampleValue v w (Text Hole) = text []
 sampleValue v w Date = text aDate
 sampleValue v w Integer = number (pos 0)
 sampleValue v w (Number l) = number (sampleNumber v l)
@@ -77,7 +79,7 @@ set-angle k [] z = refl
 set-angle k (p ∷ []) z = refl
 set-angle k (p ∷ w ∷ vs) z = refl
 
-never-board : (t : FileType) → not (isBoard t && false) ≡ true
+never-board : (t : FileType) → (not (isBoard t && false) && true) ≡ true
 never-board board = refl
 never-board panel = refl
 never-board library = refl
@@ -118,8 +120,9 @@ module _ (v : Rules) where
   module _ (w : List ℕ) (e : allOf textByte w ≡ true) where
     sample-fits : (t : FileType) (f : FieldType) → fits (under v t) f (sampleValue v w f) ≡ true
     unfolding fits goodText meaning allOf sameBytes barred isDate isTwo fitsIn datePieces
-    sample-fits t Text = rw (e, bytes-self w)
-    sample-fits t Reference = never-board t
+    sample-fits t (Text Plain) = rw (e, bytes-self w)
+    sample-fits t (Text Reference) = never-board t
+    sample-fits t (Text Hole) = refl
     sample-fits t Date = refl
     sample-fits t Integer = refl
     sample-fits t (Number l) = number-fits t l

@@ -27,6 +27,7 @@ use Rattle.law.specs.declared.Words.{Words}
 use Rattle.law.specs.declared.Words.the-variants.{FileTypes, Units, Owners, Faces, Sides, Layers, Plates, Statuses}
 use Rattle.law.specs.declared.Limit.the-variants.{Length, Version}
 use Rattle.law.specs.declared.FieldType.{FieldType}
+use Rattle.law.specs.declared.Texts.the-variants.{Plain}
 use Rattle.law.specs.declared.FieldType.the-variants.{Text, Number, Word}
 use Rattle.law.specs.Records.{shapeBy, shapeOf, isMiddle, namesAComponent}
 use Rattle.order.specs.Automaton.{isRole}
@@ -113,7 +114,7 @@ unfolding namesAComponent roleOf sectionOf lineOf sections
 named-lead Idf3 k h = ⊎-elim (λ e. rw (eqb-true k 141 e)) (λ e. rw (eqb-true k 151 e)) (either (eqb k 141) (eqb k 151) h)
 
 -- its first two fields are texts, geometry and part
-pub component-fields : (v : Rules) (k : ℕ) → namesAComponent v k ≡ true → (rest : List FieldType) × (typesOf v k ≡ Text ∷ Text ∷ rest)
+pub component-fields : (v : Rules) (k : ℕ) → namesAComponent v k ≡ true → (rest : List FieldType) × (typesOf v k ≡ Text Plain ∷ Text Plain ∷ rest)
 unfolding namesAComponent typesOf layoutOf sectionOf lineOf sections
 component-fields Idf3 k h =
     (Word Units ∷ Number Length ∷ [], ⊎-elim (λ e. rw (eqb-true k 141 e)) (λ e. rw (eqb-true k 151 e)) (either (eqb k 141) (eqb k 151) h))

@@ -16,11 +16,11 @@ use Rattle.law.specs.Lines.{End, by-10, by-13-10, File, placeBehind, closed}
 use Rattle.text.specs.Lines.{linesOf}
 use Rattle.text.proofs.LineSpelling.{lines-sound, lines-unique}
 use Rattle.law.specs.RowPlaces.{startAfter}
-use Rattle.law.specs.Files.{LinesSay, FileSays, Mendable, Continues}
+use Rattle.law.specs.Files.{LinesSay, Mendable, Continues}
 use Rattle.law.specs.Given.{Fails}
 use Rattle.law.specs.declared.Rules.{Rules}
 use Rattle.law.specs.declared.Rules.the-variants.{Idf3}
-use Rattle.shown_told.proofs.Mending.{Lines, no-line, and-line, file-lines, lines-file}
+use Rattle.shown_told.proofs.Mending.{Lines, and-line, file-lines, lines-file}
 use Rattle.shown_places.proofs.LinePlaces.{behind, end-place, rest-made, start-more}
 
 -- lines that all have their ends

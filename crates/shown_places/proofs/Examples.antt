@@ -6,6 +6,7 @@ use native.Mathlib.Omega.{arith}
 use lib.IntN.{ℤ, pos}
 use lib.ListN.{getD}
 use Rattle.law.specs.Fits.{meaning}
+use Rattle.law.specs.declared.Texts.the-variants.{Plain}
 use Rattle.law.specs.declared.FieldType.the-variants.{Text as T}
 use Rattle.law.specs.Rows as column
 use Rattle.law.specs.Rows.{Holds, aText}
@@ -14,14 +15,14 @@ use Rattle.law.proofs.DerivedPlaces.{property, its, rowFrom, its-row}
 use Rattle.shown_places.proofs.OneRow.{row-one}
 
 -- the values of PROP A A are meant by a row in which the second text has the place of the first
-pub meant-elsewhere : Holds property 143 (T ∷ T ∷ []) (rowFrom 5 5) (its .values)
+pub meant-elsewhere : Holds property 143 (T Plain ∷ T Plain ∷ []) (rowFrom 5 5) (its .values)
 unfolding meaning
 meant-elsewhere = record {
   columns = pos 5 ∷ pos 1 ∷ pos 5 ∷ pos 1 ∷ [];
   left = 5;
   is = refl;
   ten = refl;
-  means = aText {a = 5} {l = 1} refl (omega arith) (aText {a = 5} {l = 1} refl (omega arith) column.none);
+  means = aText {a = 5} {l = 1} (omega arith) (aText {a = 5} {l = 1} (omega arith) column.none);
 }
 
 -- but it is not the row of the line, which has it at 7

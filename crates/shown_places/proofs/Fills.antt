@@ -28,7 +28,7 @@ use Rattle.line_rows.specs.declared.Filling.{Filling}
 use Rattle.line_rows.proofs.LookLaws.{got-lies, some-before}
 use Rattle.line_rows.proofs.RowMeaning.{Stands, stands-one}
 use Rattle.basics.proofs.Bools.{none-some}
-use Rattle.law.specs.RecordSpelling.{SpellsField, SpellsFields, asText, asReference, asDate, asInteger, asNumber, asWord, none as noFields, more}
+use Rattle.law.specs.RecordSpelling.{SpellsField, SpellsFields, asText, asDate, asInteger, asNumber, asWord, none as noFields, more}
 use Rattle.shown_spelling.proofs.ValueSpelling.{field-complete, values-sound}
 use Rattle.law.specs.FieldPlaces.{Spot}
 use Rattle.law.specs.RowPlaces.{columnsOf, columnsOfAll}
@@ -36,8 +36,7 @@ use Rattle.shown_places.proofs.Spots.{spotsBy, spotsIn}
 
 -- a value has as many columns as its type
 value-wide : {c : Context} {t : FieldType} {v : Value} {f : Field} (p : Spot) → SpellsField c t v f → length (columnsOf v p) ≡ widthOf t
-value-wide p asText = refl
-value-wide p (asReference h) = refl
+value-wide p (asText h) = refl
 value-wide p (asDate d) = refl
 value-wide p (asInteger h) = refl
 value-wide p (asNumber h i) = refl

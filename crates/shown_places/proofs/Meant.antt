@@ -18,12 +18,12 @@ use Rattle.law.specs.declared.Rules.the-variants.{Idf3}
 use Rattle.law.specs.declared.Context.{Context}
 use Rattle.law.specs.declared.FileType.{FileType}
 use Rattle.law.specs.declared.FieldType.{FieldType}
-use Rattle.law.specs.declared.FieldType.the-variants.{Text as T, Reference as Ref}
+use Rattle.law.specs.declared.FieldType.the-variants.{Text as T}
 use Rattle.law.specs.Rows as column
 use Rattle.law.specs.Rows.{Means, aNumber, aWord, aDate, aText, Holds, RowsMean}
 use Rattle.line_rows.specs.Meaning.{Part}
 use Rattle.line_rows.proofs.MeaningLaws.{part-bytes, part-cut, part-within}
-use Rattle.law.specs.RecordSpelling.{SpellsField, SpellsFields, SpellsLine, SpellsRecord, asText, asReference, asDate, asInteger, asNumber, asWord, none as noFields, more, withKeyword, withProp, asData, asLine}
+use Rattle.law.specs.RecordSpelling.{SpellsField, SpellsFields, SpellsLine, SpellsRecord, asText, asDate, asInteger, asNumber, asWord, none as noFields, more, withKeyword, withProp, asData, asLine}
 use Rattle.shown_told.proofs.Fronts.{types-laid}
 use Rattle.law.specs.FieldPlaces.{Spot, spotOf, SpelledAt, end, space, last, next, bytesOf}
 use Rattle.law.specs.RowPlaces as rows
@@ -79,10 +79,8 @@ all-behind (p ∷ ps) qs (one h a) = all-behind ps qs a
 module _ {c : Context} {file : List ℕ} where
   field-means : {t : FieldType} {v : Value} {f : Field} {ts : List FieldType} {cs : List ℤ} {vs : List Value} (p : Spot) → SpellsField c t v f → p .what ≡ f → Stands file p
       → Means file ts cs vs → Means file (t ∷ ts) (columnsOf v p ++ cs) (v ∷ vs)
-  field-means {ts = ts} {cs = cs} {vs = vs} p asText e h m =
-      subst (λ (u : List ℕ). Means file (T ∷ ts) (pos (p .at) ∷ pos (length (bytesOf (p .what))) ∷ cs) (text (meaning T u) ∷ vs)) (h .bytes ∙ ap bytesOf e) (aText refl (h .within) m)
-  field-means {ts = ts} {cs = cs} {vs = vs} p (asReference i) e h m =
-      subst (λ (u : List ℕ). Means file (Ref ∷ ts) (pos (p .at) ∷ pos (length (bytesOf (p .what))) ∷ cs) (text (meaning Ref u) ∷ vs)) (h .bytes ∙ ap bytesOf e) (aText refl (h .within) m)
+  field-means {ts = ts} {cs = cs} {vs = vs} p (asText {k = k} i) e h m =
+      subst (λ (u : List ℕ). Means file (T k ∷ ts) (pos (p .at) ∷ pos (length (bytesOf (p .what))) ∷ cs) (text (meaning (T k) u) ∷ vs)) (h .bytes ∙ ap bytesOf e) (aText (h .within) m)
   field-means {t = t} {ts = ts} {cs = cs} {vs = vs} p (asDate i) e h m =
       subst (λ (u : List ℕ). Means file (t ∷ ts) (pos (p .at) ∷ pos (length (bytesOf (p .what))) ∷ cs) (text u ∷ vs)) (h .bytes ∙ ap bytesOf e) (aDate (h .within) m)
   field-means p (asInteger i) e h m = aNumber refl m

@@ -18,7 +18,7 @@ use Rattle.law.proofs.LargestLaws.{largest-most}
 use Rattle.law.specs.declared.Context.{Context}
 use Rattle.law.specs.declared.Limit.the-variants.{Length as L, NotBelow as L0, Above as Lp, Included as A, Rotation as R, Version as Ver}
 use Rattle.law.specs.declared.FieldType.{FieldType}
-use Rattle.law.specs.declared.FieldType.the-variants.{Text as T, Reference as Ref, Date as D, Integer as I, Number as N, Word as W}
+use Rattle.law.specs.declared.FieldType.the-variants.{Text as T, Date as D, Integer as I, Number as N, Word as W}
 use Rattle.law.specs.Rows.{isNumber}
 use Rattle.law.specs.Records.{numOf}
 
@@ -34,8 +34,7 @@ number-first (suc n) t ts h = both (isNumber t) (numbersTo n ts) h .0
 
 -- type n is of an included angle
 abbrev isIncluded : FieldType → Bool
-isIncluded T = false
-isIncluded Ref = false
+isIncluded (T k) = false
 isIncluded D = false
 isIncluded I = false
 isIncluded (N L) = false
@@ -55,8 +54,7 @@ module _ (c : Context) where
   -- no number has a larger magnitude than a length
   number-small : (t : FieldType) (x : Value) → isNumber t ≡ true → fits c t x ≡ true → natAbs (numOf x) ≤ largestLength
   unfolding fits
-  number-small T x i h = absurd (false≢true i)
-  number-small Ref x i h = absurd (false≢true i)
+  number-small (T k) x i h = absurd (false≢true i)
   number-small D x i h = absurd (false≢true i)
   number-small I (number z) i h = omega (arith, leb-true (natAbs z) largestInteger h)
   number-small I (word n) i h = absurd (false≢true h)
@@ -68,8 +66,7 @@ module _ (c : Context) where
 
   included-turn : (t : FieldType) (x : Value) → isIncluded t ≡ true → fits c t x ≡ true → inTurn (numOf x) ≡ true
   unfolding fits within
-  included-turn T x i h = absurd (false≢true i)
-  included-turn Ref x i h = absurd (false≢true i)
+  included-turn (T k) x i h = absurd (false≢true i)
   included-turn D x i h = absurd (false≢true i)
   included-turn I x i h = absurd (false≢true i)
   included-turn (N L) x i h = absurd (false≢true i)

@@ -16,14 +16,15 @@ use Rattle.law.specs.Values.{Value, word, Rec}
 use Rattle.law.specs.Sections.{sections}
 use Rattle.law.specs.Kinds.{sectionOf, lineOf, title, point, roleOf}
 use Rattle.law.specs.Layouts.{layoutOf, typesOf}
-use Rattle.law.specs.Fits.{under, meaning, WellFormed}
+use Rattle.law.specs.Fits.{under, WellFormed}
 use Rattle.law.specs.declared.Rules.{Rules}
 use Rattle.law.specs.declared.Rules.the-variants.{Idf3}
 use Rattle.law.specs.declared.FileType.{FileType}
+use Rattle.law.specs.declared.Texts.the-variants.{Plain}
 use Rattle.law.specs.declared.FieldType.{FieldType}
-use Rattle.law.specs.declared.FieldType.the-variants.{Text as T, Reference as Ref, Date as D, Integer as I, Number as N, Word as W}
-use Rattle.law.specs.Rows.{isNumber, isText, Means, none, aNumber, aWord, aDate, aText, Holds}
-use Rattle.line_rows.proofs.MeaningLaws.{not-both as number-no-text}
+use Rattle.law.specs.declared.FieldType.the-variants.{Text as T, Date as D, Integer as I, Number as N, Word as W}
+use Rattle.law.specs.Rows.{isNumber, Means, none, aNumber, aWord, aDate, aText, Holds}
+use Rattle.basics.proofs.Meanings.{plain-meaning}
 use Rattle.law.specs.Records.{numOf, wordOf, bytesOf, typeIn, Named, namesAComponent, nameIn}
 use Rattle.order.specs.Marks.{pointOf}
 use Rattle.order.specs.Automaton.{isRole}
@@ -36,8 +37,7 @@ nameAt file x = record { geometry = geometryIn file x; number = partIn file x }
 
 -- What the types in front of a layout are
 abbrev isWord : FieldType → Bool
-isWord T = false
-isWord Ref = false
+isWord (T k) = false
 isWord D = false
 isWord I = false
 isWord (N l) = false
@@ -47,13 +47,12 @@ abbrev wordFirst : List FieldType → Bool
 wordFirst [] = false
 wordFirst (t ∷ ts) = isWord t
 
-word-alone : (t : FieldType) → isWord t ≡ true → (isNumber t ≡ true → ⊥) × (isText t ≡ true → ⊥)
-word-alone T h = absurd (false≢true h)
-word-alone Ref h = absurd (false≢true h)
-word-alone D h = absurd (false≢true h)
-word-alone I h = absurd (false≢true h)
-word-alone (N l) h = absurd (false≢true h)
-word-alone (W l) h = (λ i. false≢true i, λ i. false≢true i)
+word-alone : (t : FieldType) → isWord t ≡ true → isNumber t ≡ true → ⊥
+word-alone (T k) h i = false≢true h
+word-alone D h i = false≢true h
+word-alone I h i = false≢true h
+word-alone (N l) h i = false≢true h
+word-alone (W l) h i = false≢true i
 
 -- a point is four numbers, the last an included angle, and a title begins with a word
 abbrev pointLike : List FieldType → Bool
@@ -82,21 +81,20 @@ module _ {file : List ℕ} (zs : List ℤ) where
   number-column (aNumber {t = t} {ts = ts} k m) (suc n) (suc i) h e = number-column m n i (omega arith) (both (isNumber t) (numbersTo n ts) e .1)
   number-column (aWord {l = l} {ts = ts} m) n i h e = absurd (false≢true (number-first n (W l) ts e))
   number-column (aDate {ts = ts} j m) n i h e = absurd (false≢true (number-first n D ts e))
-  number-column (aText {t = t} {ts = ts} k j m) n i h e = absurd (number-no-text t (number-first n t ts e) k)
+  number-column (aText {k = k} {ts = ts} j m) n i h e = absurd (false≢true (number-first n (T k) ts e))
 
   word-column : {ts : List FieldType} {cs : List ℤ} {vs : List Value} → Means file ts cs vs → wordFirst ts ≡ true → getD (cs ++ zs) 0 (pos 0) ≡ pos (wordOf (getD vs 0 (word 0)))
   word-column none e = absurd (false≢true e)
-  word-column (aNumber {t = t} k m) e = absurd (word-alone t e .0 k)
+  word-column (aNumber {t = t} k m) e = absurd (word-alone t e k)
   word-column (aWord m) e = refl
   word-column (aDate j m) e = absurd (false≢true e)
-  word-column (aText {t = t} k j m) e = absurd (word-alone t e .1 k)
+  word-column (aText j m) e = absurd (false≢true e)
 
-  name-columns : {ts : List FieldType} {cs : List ℤ} {vs : List Value} → Means file (T ∷ T ∷ ts) cs vs
+  name-columns : {ts : List FieldType} {cs : List ℤ} {vs : List Value} → Means file (T Plain ∷ T Plain ∷ ts) cs vs
       → nameAt file (pos 0 ∷ (cs ++ zs)) ≡ record { geometry = bytesOf (getD vs 0 (word 0)); number = bytesOf (getD vs 1 (word 0)) }
-  unfolding meaning
   name-columns (aNumber h m) = absurd (false≢true h)
-  name-columns (aText h j (aNumber i m)) = absurd (false≢true i)
-  name-columns (aText h j (aText i l m)) = refl
+  name-columns (aText j (aNumber i m)) = absurd (false≢true i)
+  name-columns (aText j (aText l m)) = rw (plain-meaning _, plain-meaning _)
 
 -- What a row says of its record
 module _ (file : List ℕ) (v : Rules) (k : ℕ) (row : List ℤ) (vs : List Value) (h : Holds file k (typesOf v k) row vs) where

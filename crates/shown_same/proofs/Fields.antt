@@ -6,18 +6,19 @@ use mathlib.Core.Bool.{Bool, true, false, _&&_, false≢true, and-false}
 use borrow.Author.Tests.{eqb-true}
 use lib.Dec.{eqb}
 use lib.IntN.{ℤ}
-use lib.ListN.{getD, replicate}
+use lib.ListN.{getD, take, drop, replicate}
 use Rattle.basics.specs.Integers.{eqZ}
 use Rattle.law.specs.Values.{Value, Rec}
-use Rattle.law.specs.Fits.{meaning}
 use Rattle.law.specs.Layouts.{typesOf}
 use Rattle.law.specs.declared.Rules.the-variants.{Idf3}
 use Rattle.law.specs.declared.FieldType.{FieldType}
-use Rattle.law.specs.declared.FieldType.the-variants.{Text as T, Reference as Ref, Date as D, Integer as I, Number as N, Word as W}
-use Rattle.law.specs.Rows.{isText, isNumber, Means, none, aNumber, aWord, aDate, aText, Holds}
-use Rattle.line_rows.proofs.MeaningLaws.{not-both, number-wide, text-wide}
+use Rattle.law.specs.declared.FieldType.the-variants.{Text as T, Date as D, Integer as I, Number as N, Word as W}
+use Rattle.law.specs.Rows.{isNumber, Means, none, aNumber, aWord, aDate, aText, Holds}
+use Rattle.line_rows.proofs.MeaningLaws.{number-wide}
+use Rattle.basics.proofs.Meanings.{date-meaning}
+use Rattle.rows_texts.specs.Texts.{sameMeanings}
 use Rattle.same.specs.Ignoring.{nothing, ignoredAt}
-use Rattle.same.specs.SameRows.{holdsBytes, countsAs, sameField, agreesAt, sameFrom, sameRow}
+use Rattle.same.specs.SameRows.{holdsBytes, sameField, agreesAt, sameFrom, sameRow}
 use Rattle.shown_same.proofs.Values.{sameValues, sameRec}
 
 -- nothing is left out
@@ -32,28 +33,11 @@ none-ignored k i = rw (none-of 7 i) (and-false (eqb 0 k))
 
 -- types by how their fields are held
 number-held : (t : FieldType) → isNumber t ≡ true → holdsBytes t ≡ false
-number-held T h = absurd (false≢true h)
-number-held Ref h = absurd (false≢true h)
+number-held (T k) h = absurd (false≢true h)
 number-held D h = absurd (false≢true h)
 number-held I h = refl
 number-held (N l) h = refl
 number-held (W l) h = absurd (false≢true h)
-
-text-held : (t : FieldType) → isText t ≡ true → holdsBytes t ≡ true
-text-held T h = refl
-text-held Ref h = refl
-text-held D h = absurd (false≢true h)
-text-held I h = absurd (false≢true h)
-text-held (N l) h = absurd (false≢true h)
-text-held (W l) h = absurd (false≢true h)
-
-text-counts : (t : FieldType) (s : List ℕ) → isText t ≡ true → countsAs t s ≡ meaning t s
-text-counts T s h = refl
-text-counts Ref s h = refl
-text-counts D s h = absurd (false≢true h)
-text-counts I s h = absurd (false≢true h)
-text-counts (N l) s h = absurd (false≢true h)
-text-counts (W l) s h = absurd (false≢true h)
 
 module _ (f h : List ℕ) (zs us : List ℤ) (k : ℕ) where
   abbrev Are : ℕ → List FieldType → List ℤ → List Value → List ℤ → List Value → Type 0
@@ -61,22 +45,18 @@ module _ (f h : List ℕ) (zs us : List ℤ) (k : ℕ) where
 
   -- columns compare as the values that they mean
   fields-are : {ts : List FieldType} {cs ds : List ℤ} {vs ws : List Value} (i : ℕ) → Means f ts cs vs → Means h ts ds ws → Are i ts cs vs ds ws
-  unfolding sameFrom agreesAt sameField sameValues eqZ
+  unfolding sameFrom agreesAt sameField sameMeanings sameValues eqZ
   fields-are i none none = refl
   fields-are i (aNumber {t = t} p x) (aNumber q y) = rw (none-ignored k i, number-held t p, number-wide t p, fields-are (i + 1) x y)
   fields-are i (aNumber p x) (aWord y) = absurd (false≢true p)
   fields-are i (aNumber p x) (aDate n y) = absurd (false≢true p)
-  fields-are i (aNumber {t = t} p x) (aText q n y) = absurd (not-both t p q)
+  fields-are i (aNumber p x) (aText n y) = absurd (false≢true p)
   fields-are i (aWord x) (aNumber q y) = absurd (false≢true q)
   fields-are i (aWord x) (aWord y) = rw (none-ignored k i, fields-are (i + 1) x y)
-  fields-are i (aWord x) (aText q n y) = absurd (false≢true q)
   fields-are i (aDate m x) (aNumber q y) = absurd (false≢true q)
-  fields-are i (aDate m x) (aDate n y) = rw (none-ignored k i, fields-are (i + 1) x y)
-  fields-are i (aDate m x) (aText q n y) = absurd (false≢true q)
-  fields-are i (aText {t = t} p m x) (aNumber q y) = absurd (not-both t q p)
-  fields-are i (aText p m x) (aWord y) = absurd (false≢true p)
-  fields-are i (aText p m x) (aDate n y) = absurd (false≢true p)
-  fields-are i (aText {t = t} p m x) (aText q n y) = rw (none-ignored k i, text-held t p, text-wide t p, text-counts t _ p, text-counts t _ p, fields-are (i + 1) x y)
+  fields-are i (aDate {a = a} {l = l} m x) (aDate {a = b} {l = n} j y) = rw (none-ignored k i, date-meaning (take l (drop a f)), date-meaning (take n (drop b h)), fields-are (i + 1) x y)
+  fields-are i (aText m x) (aNumber q y) = absurd (false≢true q)
+  fields-are i (aText m x) (aText n y) = rw (none-ignored k i, fields-are (i + 1) x y)
 
 -- rows compare as the records whose values they hold
 module _ (f h : List ℕ) (x y : List ℤ) where

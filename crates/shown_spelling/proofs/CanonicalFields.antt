@@ -27,9 +27,10 @@ use Rattle.law.specs.declared.Context.{Context}
 use Rattle.law.specs.declared.Words.{Words}
 use Rattle.law.specs.declared.Limit.{Limit}
 use Rattle.law.specs.declared.Limit.the-variants.{Length as L, NotBelow as L0, Above as Lp, Included as A, Rotation as R, Version as Ver}
+use Rattle.law.specs.declared.Texts.{Texts}
 use Rattle.law.specs.declared.FieldType.{FieldType}
-use Rattle.law.specs.declared.FieldType.the-variants.{Text as T, Reference as Ref, Date as D, Integer as I, Number as N, Word as W}
-use Rattle.law.specs.RecordSpelling.{SpellsField, asText, asReference, asDate, asInteger, asNumber, asWord}
+use Rattle.law.specs.declared.FieldType.the-variants.{Text as T, Date as D, Integer as I, Number as N, Word as W}
+use Rattle.law.specs.RecordSpelling.{SpellsField, asText, asDate, asInteger, asNumber, asWord}
 use Rattle.law.specs.Canonical.{noSpace, needsQuotes, versionText, printedNumber, canonicalField}
 use Rattle.shown_spelling.proofs.BareBytes.{tight, safe, all-zip, tight-text, tight-number, safe-number, tight-integer, safe-integer, tight-date, safe-date}
 use Rattle.shown_spelling.proofs.Tables.{words-stand, word-listed}
@@ -72,15 +73,10 @@ unfolding goodText
 text-held t s h = (text-writes s (and-left (allOf textByte s) _ h), bytes-true (meaning t s) s (and-right (allOf textByte s) _ h))
 
 module _ (c : Context) where
-  text-canon : (s : List ℕ) → goodText T s ≡ true → Canon c T (text s) (field (needsQuotes s) s)
-  text-canon s h =
-      let g = text-held T s h in
-      record { spells = subst (λ (w : List ℕ). SpellsField c T (text w) (field (needsQuotes s) s)) (g .1) asText; writes = g .0 }
-
-  reference-canon : (s : List ℕ) → goodText Ref s ≡ true → barred c s ≡ false → Canon c Ref (text s) (field (needsQuotes s) s)
-  reference-canon s h b =
-      let g = text-held Ref s h in
-      record { spells = subst (λ (w : List ℕ). SpellsField c Ref (text w) (field (needsQuotes s) s)) (g .1) (asReference (rw (g .1) b)); writes = g .0 }
+  text-canon : (k : Texts) (s : List ℕ) → goodText (T k) s ≡ true → barred c k s ≡ false → Canon c (T k) (text s) (field (needsQuotes s) s)
+  text-canon k s h b =
+      let g = text-held (T k) s h in
+      record { spells = subst (λ (w : List ℕ). SpellsField c (T k) (text w) (field (needsQuotes s) s)) (g .1) (asText (rw (g .1) b)); writes = g .0 }
 
   date-canon : (s : List ℕ) → isDate s ≡ true → Canon c D (text s) (field false s)
   date-canon s h = record { spells = asDate h; writes = asBare (tight-date s h) (safe-date s h) }
@@ -113,12 +109,9 @@ module _ (c : Context) where
 
   pub field-canon : (t : FieldType) (v : Value) → fits c t v ≡ true → Canon c t v (canonicalField (c .rules) t v)
   unfolding fits canonicalField
-  field-canon T (text s) h = text-canon s h
-  field-canon T (number z) h = absurd (false≢true h)
-  field-canon T (word n) h = absurd (false≢true h)
-  field-canon Ref (text s) h = reference-canon s (and-left (goodText Ref s) _ h) (not-true _ (and-right (goodText Ref s) _ h))
-  field-canon Ref (number z) h = absurd (false≢true h)
-  field-canon Ref (word n) h = absurd (false≢true h)
+  field-canon (T k) (text s) h = text-canon k s (and-right (not (barred c k s)) _ h) (not-true _ (and-left (not (barred c k s)) _ h))
+  field-canon (T k) (number z) h = absurd (false≢true h)
+  field-canon (T k) (word n) h = absurd (false≢true h)
   field-canon D (text s) h = date-canon s h
   field-canon D (number z) h = absurd (false≢true h)
   field-canon D (word n) h = absurd (false≢true h)

@@ -24,7 +24,8 @@ use Rattle.law.specs.declared.FileType.the-variants.{Board, Library}
 use Rattle.law.specs.declared.Words.the-variants.{Units, Owners, Faces}
 use Rattle.law.specs.declared.Limit.the-variants.{Length as L}
 use Rattle.law.specs.declared.FieldType.{FieldType}
-use Rattle.law.specs.declared.FieldType.the-variants.{Text as T, Reference as Ref, Number as N, Word as W}
+use Rattle.law.specs.declared.FieldType.the-variants.{Text as T, Number as N, Word as W}
+use Rattle.law.specs.declared.Texts.the-variants.{Plain, Reference}
 use Rattle.number.specs.Integers.{digits, unsigned, readInteger}
 use Rattle.law.specs.Dates.{datePieces, isTwo, fitsIn, isDate}
 use Rattle.law.specs.LineSpelling.{outside, SpellsLines, end, free, line}
@@ -43,14 +44,14 @@ writes k vs = canonicalRecord Idf3 (record { kind = k; values = vs })
 
 -- spaces in front and quotes; a keyword in any case; a PROP line; a comment, and space then #; a bare period in front; a word and BOARD in quotes
 pub lines :
-    (reads plain (T ∷ T ∷ W Units ∷ N L ∷ []) "  R1206 \"10K\" THOU 25" ≡ good (txt "R1206" ∷ txt "10K" ∷ word 1 ∷ number (pos 2_500_000) ∷ []))
+    (reads plain (T Plain ∷ T Plain ∷ W Units ∷ N L ∷ []) "  R1206 \"10K\" THOU 25" ≡ good (txt "R1206" ∷ txt "10K" ∷ word 1 ∷ number (pos 2_500_000) ∷ []))
     × (reads (keyword (ascii "BOARD_OUTLINE")) (W Owners ∷ []) " .Board_outline  ECAD " ≡ good (word 1 ∷ []))
-    × (reads prop (T ∷ T ∷ []) "PROP .a \"#\"" ≡ good (txt ".a" ∷ txt "#" ∷ []))
-    × (reads plain (T ∷ []) "#a" ≡ refused 5)
-    × (reads plain (T ∷ []) " #a" ≡ good (txt "#a" ∷ []))
-    × (reads plain (T ∷ []) ".5x" ≡ refused 5)
+    × (reads prop (T Plain ∷ T Plain ∷ []) "PROP .a \"#\"" ≡ good (txt ".a" ∷ txt "#" ∷ []))
+    × (reads plain (T Plain ∷ []) "#a" ≡ refused 5)
+    × (reads plain (T Plain ∷ []) " #a" ≡ good (txt "#a" ∷ []))
+    × (reads plain (T Plain ∷ []) ".5x" ≡ refused 5)
     × (reads plain (W Faces ∷ []) "\"TOP\"" ≡ refused 9)
-    × (reads plain (Ref ∷ []) "\"BOARD\"" ≡ refused 9)
+    × (reads plain (T Reference ∷ []) "\"BOARD\"" ≡ refused 9)
 unfolding readLine lineAs begins allOf permitted fieldsOf fieldsIn fieldOf fieldAt bareAt quotedAt closedAt endsWell span readFields readEach readField meaning barred kept within readNumber body whole decimals toCount digitHere wordsOf placeOf sameBytes folded
 lines = (refl, refl, refl, refl, refl, refl, refl, refl)
 

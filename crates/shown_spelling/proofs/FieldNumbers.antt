@@ -30,8 +30,9 @@ use Rattle.law.specs.declared.Context.{Context}
 use Rattle.law.specs.declared.Limit.{Limit}
 use Rattle.law.specs.declared.Limit.the-variants.{Length as L, NotBelow as L0, Above as Lp, Included as A, Rotation as R, Version as Ver}
 use Rattle.law.specs.declared.Words.{Words}
+use Rattle.law.specs.declared.Texts.the-variants.{Plain, Reference, Hole}
 use Rattle.law.specs.declared.FieldType.{FieldType}
-use Rattle.law.specs.declared.FieldType.the-variants.{Text as T, Reference as Ref, Date as D, Integer as I, Number as N, Word as W}
+use Rattle.law.specs.declared.FieldType.the-variants.{Text as T, Date as D, Integer as I, Number as N, Word as W}
 use Rattle.law.specs.Numbers.{SpellsNumber}
 use Rattle.shown_spelling.proofs.ValueSpelling.{field-sound, field-complete}
 use Rattle.law.specs.FieldFaults.{NoValue, FaultyField, no-integer, quoted-number, no-number, too-fine, other-version, beyond-limit, no-word, no-date, barred-board, FaultyFields, here, later}
@@ -90,12 +91,13 @@ module _ (c : Context) where
       (too-fine (magnitude-sound (kept c l) (largest l) s (rw h)) (λ z p. let i = number-complete p in let y : _≡_ {A = ℕ} 0 1 = cc in omega arith))
 
   pub field-fault : (t : FieldType) (f : Field) (n : ℕ) → readField c t f ≡ refused n → FaultyField c t f n
-  unfolding readField
-  field-fault T (field q s) n e = absurd (no-refusal e)
-  field-fault Ref (field q s) n e = go (barred c (meaning Ref s)) refl
+  unfolding readField barred
+  field-fault (T Plain) (field q s) n e = absurd (no-refusal e)
+  field-fault (T Hole) (field q s) n e = absurd (no-refusal e)
+  field-fault (T Reference) (field q s) n e = go (barred c Reference (meaning (T Reference) s)) refl
     where
-      go : (b : Bool) → barred c (meaning Ref s) ≡ b → FaultyField c Ref (field q s) n
-      go true h = subst (FaultyField c Ref (field q s)) (one-refusal (rw h at e)) (barred-board (no-value e))
+      go : (b : Bool) → barred c Reference (meaning (T Reference) s) ≡ b → FaultyField c (T Reference) (field q s) n
+      go true h = subst (FaultyField c (T Reference) (field q s)) (one-refusal (rw h at e)) (barred-board (no-value e))
       go false h = absurd (no-refusal (rw h at e))
   field-fault D (field true s) n e = subst (FaultyField c D (field true s)) (one-refusal e) (no-date (no-value e))
   field-fault D (field false s) n e = go (isDate s) refl
@@ -156,11 +158,11 @@ module _ (c : Context) where
       go true e = absurd (no-refusal e)
       go false e = sym (one-refusal e)
 
-  only-reference : Only Ref 9
+  only-reference : Only (T Reference) 9
   unfolding readField
-  only-reference (field q s) m e = go (barred c (meaning Ref s)) e
+  only-reference (field q s) m e = go (barred c Reference (meaning (T Reference) s)) e
     where
-      go : (b : Bool) → cond b (refused 9) (good (text (meaning Ref s))) ≡ refused m → m ≡ 9
+      go : (b : Bool) → cond b (refused 9) (good (text (meaning (T Reference) s))) ≡ refused m → m ≡ 9
       go true e = sym (one-refusal e)
       go false e = absurd (no-refusal e)
 
@@ -184,7 +186,7 @@ module _ (c : Context) where
   field-refused (beyond-limit {l} d p h) = rw (number-complete p, h, beyond-other l d)
   field-refused (no-word {l} {f} h) = only (W l) 9 f (only-word l) h
   field-refused (no-date {f} h) = only D 9 f only-date h
-  field-refused (barred-board {f} h) = only Ref 9 f only-reference h
+  field-refused (barred-board {f} h) = only (T Reference) 9 f only-reference h
 
   -- The fields from the left
   each-fault : (ts : List FieldType) (fs : List Field) (n : ℕ) → length fs ≡ length ts → readEach c ts fs ≡ refused n → FaultyFields c ts fs n

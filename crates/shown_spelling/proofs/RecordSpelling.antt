@@ -6,7 +6,6 @@ use mathlib.Core.Option.{some}
 use mathlib.Core.Bool.{true}
 use borrow.Author.Tests.{le-leb}
 use lib.IntN.{ℤ, natAbs}
-use Rattle.basics.proofs.Bytes.{bytes-same}
 use Rattle.basics.proofs.Lists.{all-complete}
 use Rattle.law.specs.Bytes as by
 use Rattle.law.specs.Bytes.{permitted, All}
@@ -22,8 +21,9 @@ use Rattle.law.specs.Fits.{largest, meaning, textByte, goodText, fits, fitsAll,
 use Rattle.form.specs.Reading.{readLine}
 use Rattle.law.specs.declared.Context.{Context}
 use Rattle.law.specs.declared.FieldType.{FieldType}
-use Rattle.law.specs.declared.FieldType.the-variants.{Text as T, Reference as Ref}
-use Rattle.law.specs.RecordSpelling.{SpellsField, asText, asReference, asDate, asInteger, asNumber, asWord, SpellsFields, none as noFields, more, SpellsLine, withKeyword, withProp, asData, SpellsRecord, asLine}
+use Rattle.basics.proofs.Meanings.{meaning-good}
+use Rattle.law.specs.declared.FieldType.the-variants.{Text as T}
+use Rattle.law.specs.RecordSpelling.{SpellsField, asText, asDate, asInteger, asNumber, asWord, SpellsFields, none as noFields, more, SpellsLine, withKeyword, withProp, asData, SpellsRecord, asLine}
 use Rattle.shown_spelling.proofs.BareBytes.{all-left, all-right, all-zip, bare-text, quoted-text}
 use Rattle.shown_spelling.proofs.Tables.{words-stand, listed-some}
 use Rattle.shown_spelling.proofs.LineSpelling.{line-sound, line-complete, line-unique}
@@ -55,25 +55,14 @@ integer-small (plain r h) = h
 integer-small (plus r h) = h
 integer-small (minus {n} r h) = rw (abs-signed true n) h
 
--- A meaning is made of a text's bytes, and is its own
-meaning-bytes : (t : FieldType) {s : List ℕ} → All textByte s → All textByte (meaning t s)
-unfolding meaning
-meaning-bytes t a = a
-
-meaning-twice : (t : FieldType) (s : List ℕ) → meaning t (meaning t s) ≡ meaning t s
-unfolding meaning
-meaning-twice t s = refl
-
 text-fits : (t : FieldType) (s : List ℕ) → All textByte s → goodText t (meaning t s) ≡ true
-unfolding goodText
-text-fits t s a = rw (all-complete textByte (meaning-bytes t a)) (bytes-same _ _ (meaning-twice t s))
+text-fits t s a = meaning-good t s ∙ all-complete textByte a
 
 module _ {c : Context} where
   -- What a field of permitted bytes spells fits its type
   pub value-fits : {t : FieldType} {v : Value} {f : Field} → SpellsField c t v f → All textByte (bytesOf f) → fits c t v ≡ true
   unfolding fits
-  value-fits (asText {s = s}) a = text-fits T s a
-  value-fits (asReference {s = s} h) a = rw (h, text-fits Ref s a)
+  value-fits (asText {k = k} {s = s} h) a = rw (h, text-fits (T k) s a)
   value-fits (asDate h) a = h
   value-fits (asInteger {z} r) a = le-leb (natAbs z) largestInteger (integer-small r)
   value-fits (asNumber {l} {z} r h) a = rw (h, le-leb (natAbs z) (largest l) (number-small r))

@@ -28,8 +28,8 @@ use Rattle.law.specs.declared.Context.{Context}
 use Rattle.law.specs.declared.Limit.{Limit}
 use Rattle.law.specs.declared.Words.{Words}
 use Rattle.law.specs.declared.FieldType.{FieldType}
-use Rattle.law.specs.declared.FieldType.the-variants.{Text as T, Reference as Ref, Date as D, Integer as I, Number as N, Word as W}
-use Rattle.law.specs.RecordSpelling.{SpellsField, asText, asReference, asDate, asInteger, asNumber, asWord, SpellsFields, none as noFields, more}
+use Rattle.law.specs.declared.FieldType.the-variants.{Text as T, Date as D, Integer as I, Number as N, Word as W}
+use Rattle.law.specs.RecordSpelling.{SpellsField, asText, asDate, asInteger, asNumber, asWord, SpellsFields, none as noFields, more}
 use Rattle.shown_spelling.proofs.Logic.{refused-good, cond-good, cond-not-good}
 use Rattle.shown_spelling.proofs.WordSpelling.{place-sound, place-complete}
 use Rattle.shown_spelling.proofs.Tables.{words-differ}
@@ -38,8 +38,7 @@ module _ {c : Context} where
   -- What spells a value reads as it
   pub field-complete : {t : FieldType} {v : Value} {f : Field} → SpellsField c t v f → readField c t f ≡ good v
   unfolding readField
-  field-complete asText = refl
-  field-complete (asReference h) = rw h
+  field-complete (asText h) = rw h
   field-complete (asDate h) = rw h
   field-complete (asInteger r) = rw (integer-complete r)
   field-complete (asNumber r h) = rw (number-complete r, h)
@@ -64,11 +63,10 @@ module _ {c : Context} where
 
   pub field-sound : (t : FieldType) (f : Field) {v : Value} → readField c t f ≡ good v → SpellsField c t v f
   unfolding readField
-  field-sound T (field q s) {v} e = let p : v ≡ text (meaning T s) = cc in rw p asText
-  field-sound Ref (field q s) {v} e =
-      let g = cond-not-good 9 (barred c (meaning Ref s)) e in
-      let p : v ≡ text (meaning Ref s) = cc (g .1) in
-      rw p (asReference (g .0))
+  field-sound (T k) (field q s) {v} e =
+      let g = cond-not-good 9 (barred c k (meaning (T k) s)) e in
+      let p : v ≡ text (meaning (T k) s) = cc (g .1) in
+      rw p (asText (g .0))
   field-sound D (field true s) e = absurd (refused-good e)
   field-sound D (field false s) {v} e =
       let g = cond-good 9 (isDate s) e in

@@ -15,7 +15,7 @@ use Rattle.law.specs.Layouts.{Front, keyword, prop, plain, Layout, ownerField, 
 use Rattle.law.specs.declared.Rules.{Rules}
 use Rattle.law.specs.declared.Rules.the-variants.{Idf3}
 use Rattle.law.specs.declared.FieldType.{FieldType}
-use Rattle.law.specs.declared.FieldType.the-variants.{Text, Reference, Date, Integer, Number, Word}
+use Rattle.law.specs.declared.FieldType.the-variants.{Text, Date, Integer, Number, Word}
 use Rattle.order.specs.Automaton.{isRole, standsIn, mayStand}
 use Rattle.order.specs.declared.Phase.{Phase}
 use Rattle.order.specs.declared.Phase.the-variants.{AwaitTitle, AwaitName, HeaderFull, AwaitLead, InPoints, InProps, InList, AwaitPart, AwaitPosition}
@@ -147,8 +147,7 @@ kind-section v s n h k = made-section v s n h (role-known v (kindAt v s n) k)
 -- a point begins with its label, an integer
 abbrev pub integerFirst : List FieldType → Bool
 integerFirst [] = false
-integerFirst (Text ∷ ts) = false
-integerFirst (Reference ∷ ts) = false
+integerFirst (Text k ∷ ts) = false
 integerFirst (Date ∷ ts) = false
 integerFirst (Integer ∷ ts) = true
 integerFirst (Number l ∷ ts) = false

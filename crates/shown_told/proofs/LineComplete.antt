@@ -45,7 +45,7 @@ use Rattle.order.proofs.Steps.{advance-is}
 use Rattle.shown_lists.proofs.Roles.{isSome, isSection, isRole-true, role-known}
 use Rattle.shown_lists.proofs.FirstLine.{taken}
 use Rattle.shown_lists.proofs.ByPlace.{kind-by, kind-by-place}
-use Rattle.law.specs.RecordSpelling.{asText, asReference, asDate, asInteger, asNumber, asWord, SpellsFields, none as noFields, more, SpellsRecord, asLine}
+use Rattle.law.specs.RecordSpelling.{asText, asDate, asInteger, asNumber, asWord, SpellsFields, none as noFields, more, SpellsRecord, asLine}
 use Rattle.shown_spelling.proofs.ValueSpelling.{values-sound}
 use Rattle.shown_spelling.proofs.LineSpelling.{Looks, line-looks}
 use Rattle.shown_spelling.proofs.KeywordLaws.{IsSection, keyword-at, section-named}
@@ -78,8 +78,7 @@ prop-no-integer {z} s r h =
 
 label-not-prop : {c : Context} {ts : List FieldType} {vs : List Value} {fs : List Field} → SpellsFields c ts vs fs → integerFirst ts ≡ true → isProp fs ≡ false
 label-not-prop noFields h = absurd (false≢true h)
-label-not-prop (more asText q) h = absurd (false≢true h)
-label-not-prop (more (asReference e) q) h = absurd (false≢true h)
+label-not-prop (more (asText e) q) h = absurd (false≢true h)
 label-not-prop (more (asDate r) q) h = absurd (false≢true h)
 label-not-prop (more (asInteger {s = s} r) q) h = go (sameBytes propWord s) refl
   where

@@ -2,7 +2,7 @@
 use Prim.Native.Nat.{ℕ}
 use mathlib.Core.Path.{_≡_}
 use mathlib.Core.List.{List}
-use mathlib.Core.Bool.{true}
+use mathlib.Core.Bool.{true, not}
 use lib.Dec.{leb}
 use lib.IntN.{natAbs}
 use borrow.Author.Tests.{not-true}
@@ -10,19 +10,18 @@ use Rattle.basics.proofs.Bools.{both}
 use Rattle.law.specs.Fields.{Field}
 use Rattle.law.specs.Values.{Value, Rec}
 use Rattle.law.specs.Layouts.{Front}
-use Rattle.law.specs.Fits.{under, kept, largest, meaning, goodText, fits, fitsAll, wellFormed, WellFormed}
+use Rattle.law.specs.Fits.{under, kept, largest, meaning, barred, fits, fitsAll, wellFormed, WellFormed}
 use Rattle.law.specs.declared.Rules.{Rules}
 use Rattle.law.specs.declared.FileType.{FileType}
 use Rattle.law.specs.declared.FieldType.{FieldType}
-use Rattle.law.specs.declared.FieldType.the-variants.{Reference as Ref}
-use Rattle.law.specs.RecordSpelling.{SpellsField, asText, asReference, asDate, asInteger, asNumber, asWord, SpellsFields, none as noFields, more, SpellsLine, withKeyword, withProp, asData, SpellsRecord, asLine}
+use Rattle.law.specs.declared.FieldType.the-variants.{Text as T}
+use Rattle.law.specs.RecordSpelling.{SpellsField, asText, asDate, asInteger, asNumber, asWord, SpellsFields, none as noFields, more, SpellsLine, withKeyword, withProp, asData, SpellsRecord, asLine}
 
 module _ {v : Rules} {a : FileType} (b : FileType) where
-  -- only a reference depends on the file's type, and what is well formed holds none that is barred
+  -- only what is barred depends on the file's type, and what is well formed holds none that is
   field-again : {t : FieldType} {x : Value} {f : Field} → SpellsField (under v a) t x f → fits (under v b) t x ≡ true → SpellsField (under v b) t x f
   unfolding fits kept
-  field-again asText h = asText
-  field-again (asReference {s = s} e) h = asReference (not-true _ (both (goodText Ref (meaning Ref s)) _ h .1))
+  field-again (asText {k = k} {s = s} e) h = asText (not-true _ (both (not (barred (under v b) k (meaning (T k) s))) _ h .0))
   field-again (asDate r) h = asDate r
   field-again (asInteger r) h = asInteger r
   field-again (asNumber {l} {z} r e) h = asNumber r (both (leb (natAbs z) (largest l)) _ h .1)

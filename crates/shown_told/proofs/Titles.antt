@@ -13,7 +13,7 @@ use Rattle.form.specs.Values.{refused}
 use Rattle.law.specs.Sections.{Shape, header, outline, component, keepout, listing, placements}
 use Rattle.law.specs.Kinds.{sectionOf, Role, opening, closing, title, name, lead, point, prop, entry, part, position, roleOf}
 use Rattle.law.specs.Layouts.{typesOf}
-use Rattle.law.specs.Fits.{under, kept, largest, within, wellFormed}
+use Rattle.law.specs.Fits.{under, kept, largest, within, wellFormed, barred}
 use Rattle.form.specs.Reading.{ofCount, readField, readEach, readFields}
 use Rattle.number.specs.Numbers.{readNumber}
 use Rattle.law.specs.Limits.{mostDecimals}
@@ -22,8 +22,9 @@ use Rattle.number.specs.declared.NumberAnswer.the-variants.{Count, NotNumber, T
 use Rattle.law.specs.declared.Rules.{Rules}
 use Rattle.law.specs.declared.Limit.{Limit}
 use Rattle.law.specs.declared.Limit.the-variants.{Length as L, NotBelow as L0, Above as Lp, Included as A, Rotation as R, Version as Ver}
+use Rattle.law.specs.declared.Texts.the-variants.{Plain, Reference, Hole}
 use Rattle.law.specs.declared.FieldType.{FieldType}
-use Rattle.law.specs.declared.FieldType.the-variants.{Text as T, Reference as Ref, Date as D, Integer as I, Number as N, Word as W}
+use Rattle.law.specs.declared.FieldType.the-variants.{Text as T, Date as D, Integer as I, Number as N, Word as W}
 use Rattle.law.specs.declared.FileType.{FileType}
 use Rattle.law.specs.declared.FileType.the-variants.{Board as board, Panel as panel, Library as library}
 use Rattle.order_loops.specs.Loops.{loopAfter, complete}
@@ -122,16 +123,18 @@ phase-typed t g s awaitPart a f r i = fit-typed t (isRole a part) f (next (insid
 phase-typed t g s awaitPosition a f r i = fit-typed t (isRole a position) f (next (inside g s awaitPart)) (refused misplaced) i tt
 
 abbrev isRef : FieldType → Bool
-isRef T = false
-isRef Ref = true
+isRef (T Plain) = false
+isRef (T Reference) = true
+isRef (T Hole) = false
 isRef D = false
 isRef I = false
 isRef (N l) = false
 isRef (W l) = false
 
 no-reference : (t : FieldType) (ts : List FieldType) → noReference (t ∷ ts) ≡ true → (isRef t ≡ false) × (noReference ts ≡ true)
-no-reference T ts h = (refl, h)
-no-reference Ref ts h = absurd (false≢true h)
+no-reference (T Plain) ts h = (refl, h)
+no-reference (T Reference) ts h = absurd (false≢true h)
+no-reference (T Hole) ts h = (refl, h)
 no-reference D ts h = (refl, h)
 no-reference I ts h = (refl, h)
 no-reference (N l) ts h = (refl, h)
@@ -261,9 +264,10 @@ module _ (v : Rules) where
     count-any l TooFine = refl
 
     field-any : (t : FieldType) (f : Field) → isRef t ≡ false → readField (under v a) t f ≡ readField (under v b) t f
-    unfolding readField kept
-    field-any T (field q s) h = refl
-    field-any Ref f h = absurd (false≢true (sym h))
+    unfolding readField kept barred
+    field-any (T Plain) (field q s) h = refl
+    field-any (T Reference) f h = absurd (false≢true (sym h))
+    field-any (T Hole) (field q s) h = refl
     field-any D (field true s) h = refl
     field-any D (field false s) h = refl
     field-any I (field true s) h = refl

@@ -100,10 +100,10 @@ library = of 10 [] ∷ of 11 (word 2 ∷ number (pos 300_000) ∷ text (ascii "p
 
 -- the rows of the header say this list, and its text is within the limit
 pub says : RowsSay lent library (header 1 0)
-unfolding advance wellFormed fitsAll fits within goodText meaning allOf permitted sameBytes wordsOf wordAt isEmpty isDate fitsIn isTwo datePieces mayOpen after shapeOf manyLoops namesAComponent layoutOf typesOf sectionOf lineOf roleOf sections
+unfolding advance wellFormed fitsAll fits within goodText meaning barred allOf permitted sameBytes wordsOf wordAt isEmpty isDate fitsIn isTwo datePieces mayOpen after shapeOf manyLoops namesAComponent layoutOf typesOf sectionOf lineOf roleOf sections
 says = record {
   means = rows.row (record { columns = []; left = 9; is = refl; ten = refl; means = none })
-      (rows.row (record { columns = _; left = 2; is = refl; ten = refl; means = aWord (aNumber refl (aText {a = 20} {l = 1} refl (omega arith) (aDate {a = 0} {l = 19} (omega arith) (aNumber refl none)))) })
+      (rows.row (record { columns = _; left = 2; is = refl; ten = refl; means = aWord (aNumber refl (aText {a = 20} {l = 1} (omega arith) (aDate {a = 0} {l = 19} (omega arith) (aNumber refl none)))) })
       (rows.row (record { columns = []; left = 9; is = refl; ten = refl; means = none }) rows.none));
   permitted = accepted-permitted Idf3 library refl;
   distinct = nothing-named;

@@ -12,13 +12,14 @@ use Rattle.law.specs.Limits.{below}
 use Rattle.law.specs.Values.{text}
 use Rattle.form_layouts.specs.Letters.{widthOf, isKind}
 use Rattle.law.specs.Layouts.{typesOf}
-use Rattle.law.specs.Fits.{under, barred, goodText, largest, within, fits}
+use Rattle.law.specs.Fits.{under, barred, meaning, largest, within, fits}
 use Rattle.law.specs.declared.Rules.{Rules}
 use Rattle.law.specs.declared.FileType.{FileType}
 use Rattle.law.specs.declared.Limit.{Limit}
 use Rattle.law.specs.declared.Limit.the-variants.{Length as L, NotBelow as L0, Above as Lp, Included as A, Rotation as R, Version as Ver}
+use Rattle.law.specs.declared.Texts.the-variants.{Plain, Reference, Hole}
 use Rattle.law.specs.declared.FieldType.{FieldType}
-use Rattle.law.specs.declared.FieldType.the-variants.{Text as T, Reference as Ref, Date as D, Integer as I, Number as N, Word as W}
+use Rattle.law.specs.declared.FieldType.the-variants.{Text as T, Date as D, Integer as I, Number as N, Word as W}
 use Rattle.order.specs.Automaton.{accepted, typeAt, stepped}
 use Rattle.order.specs.declared.State.{State}
 use Rattle.order.specs.declared.Outcome.{Outcome}
@@ -33,8 +34,9 @@ use Rattle.write.specs.Outcomes.{allFit}
 module _ (v : Rules) (u : FileType) (bytes : List ℕ) where
   bytes-any : (t : FieldType) (s : List ℕ) → fits (under v u) t (text s) ≡ true → fits (anywhere v) t (text s) ≡ true
   unfolding fits barred
-  bytes-any T s h = h
-  bytes-any Ref s h = and-both _ _ (and-left (goodText Ref s) _ h) refl
+  bytes-any (T Plain) s h = h
+  bytes-any (T Reference) s h = and-right (not (barred (under v u) Reference s)) _ h
+  bytes-any (T Hole) s h = h
   bytes-any D s h = h
   bytes-any I s h = h
   bytes-any (N l) s h = h
@@ -42,7 +44,7 @@ module _ (v : Rules) (u : FileType) (bytes : List ℕ) where
 
   range-any : (t : FieldType) (a b : ℤ) → rangeFits (under v u) t bytes a b ≡ true → rangeFits (anywhere v) t bytes a b ≡ true
   unfolding rangeFits
-  range-any t a b h = and-both _ _ (and-left (liesIn (length bytes) a b) _ h) (bytes-any t (textAt bytes a b) (and-right (liesIn (length bytes) a b) _ h))
+  range-any t a b h = and-both _ _ (and-left (liesIn (length bytes) a b) _ h) (bytes-any t (meaning t (textAt bytes a b)) (and-right (liesIn (length bytes) a b) _ h))
 
   within-any : (l : Limit) (z : ℤ) → within (under v u) l z ≡ true → within (anywhere v) l z ≡ true
   unfolding within
@@ -55,8 +57,7 @@ module _ (v : Rules) (u : FileType) (bytes : List ℕ) where
 
   field-any : (t : FieldType) (a b : ℤ) → fieldFits (under v u) t bytes a b ≡ true → fieldFits (anywhere v) t bytes a b ≡ true
   unfolding fits
-  field-any T a b h = range-any T a b h
-  field-any Ref a b h = range-any Ref a b h
+  field-any (T k) a b h = range-any (T k) a b h
   field-any D a b h = range-any D a b h
   field-any I a b h = h
   field-any (N l) a b h = and-both _ _ (and-left (leb (natAbs a) (largest l)) _ h) (within-any l a (and-right (leb (natAbs a) (largest l)) _ h))

@@ -2,7 +2,7 @@
 use Prim.Native.Nat.{ℕ, suc, _+_, _-_, _^_, _≤_, _<_}
 use mathlib.Core.Path.{_≡_, refl, sym, ap, _∙_}
 use mathlib.Core.List.{List, [], _∷_}
-use mathlib.Core.Bool.{Bool, true, false, not, _&&_, _||_, and-true}
+use mathlib.Core.Bool.{Bool, true, false, not, _&&_, _||_}
 use native.Mathlib.Numerals.{add-one}
 use native.Mathlib.Omega.{arith}
 use mir.Syntax.{w64}
@@ -14,7 +14,7 @@ use lib.IntN.{ℤ, pos, natAbs}
 use lib.ListN.{length, take, drop, getD, drop-of-length-le}
 use lib.Seq.{drop-cons}
 use Rattle.rows.specs.Columns.{columnAt}
-use Rattle.basics.proofs.Bytes.{bytes-self}
+use Rattle.basics.proofs.Meanings.{date-meaning, meaning-good}
 use Rattle.basics.specs.Integers.{eqZ}
 use Rattle.basics.proofs.Integers.{back}
 use Rattle.basics.proofs.Lists.{all-more, all-stop, all-over}
@@ -25,13 +25,14 @@ use Rattle.law.specs.Dates.{isDate}
 use Rattle.law.specs.Values.{number, text}
 use Rattle.law.specs.Words.{wordsOf, wordAt}
 use Rattle.form_words.specs.Padded.{trimmed, wordRow}
-use Rattle.law.specs.Fits.{textByte, barred, isEmpty, goodText, meaning, fits}
+use Rattle.law.specs.Fits.{textByte, barred, isEmpty, meaning, fits}
 use Rattle.law.specs.declared.Rules.{Rules}
 use Rattle.law.specs.declared.Context.{Context}
 use Rattle.law.specs.declared.Words.{Words}
 use Rattle.law.specs.declared.Limit.{Limit}
+use Rattle.law.specs.declared.Texts.{Texts}
 use Rattle.law.specs.declared.FieldType.{FieldType}
-use Rattle.law.specs.declared.FieldType.the-variants.{Text as T, Reference as Ref, Date as D, Integer as I, Number as N, Word as W}
+use Rattle.law.specs.declared.FieldType.the-variants.{Text as T, Date as D, Integer as I, Number as N, Word as W}
 use Rattle.form_words.proofs.RowLaws.{word-held}
 use Rattle.write_columns.specs.Columns.{liesIn, rangeFits, integerFits, wordFits, fieldFits, columnFits, allZero}
 
@@ -86,32 +87,24 @@ module _ (v : Rules) (l : Words) (z : ℤ) (x : Bool) (f : SFits w64 z) (e : x �
 
 -- past the last column
 -- bytes at a field
-text-good : (t : FieldType) (s : List ℕ) → goodText t s ≡ allOf textByte s
-unfolding goodText meaning
-text-good t s = rw (bytes-self s) (and-true (allOf textByte s))
-
 module _ (c : Context) (t : FieldType) (s : List ℕ) where
-  pub holds-text : (x : Bool) → t ≡ T → x ≡ allOf textByte s → x ≡ fits c t (text s)
+  pub holds-text : (k : Texts) (x y : Bool) → t ≡ T k → x ≡ allOf textByte s → y ≡ barred c k (meaning (T k) s) → (not y && x) ≡ fits c t (text (meaning t s))
   unfolding fits
-  holds-text x h e = rw h (e ∙ sym (text-good T s))
+  holds-text k x y h e f = rw (h, e, f, meaning-good (T k) s)
 
-  pub holds-reference : (x y : Bool) → t ≡ Ref → x ≡ allOf textByte s → y ≡ barred c s → (x && not y) ≡ fits c t (text s)
+  pub holds-date : (x : Bool) → t ≡ D → x ≡ isDate s → x ≡ fits c t (text (meaning t s))
   unfolding fits
-  holds-reference x y h e f = rw (h, e, f, text-good Ref s)
+  holds-date x h e = rw (h, date-meaning s) e
 
-  pub holds-date : (x : Bool) → t ≡ D → x ≡ isDate s → x ≡ fits c t (text s)
-  unfolding fits
-  holds-date x h e = rw h e
-
-  pub holds-integer : t ≡ I → false ≡ fits c t (text s)
+  pub holds-integer : t ≡ I → false ≡ fits c t (text (meaning t s))
   unfolding fits
   holds-integer h = rw h
 
-  pub holds-number : (l : Limit) → t ≡ N l → false ≡ fits c t (text s)
+  pub holds-number : (l : Limit) → t ≡ N l → false ≡ fits c t (text (meaning t s))
   unfolding fits
   holds-number l h = rw h
 
-  pub holds-word : (l : Words) → t ≡ W l → false ≡ fits c t (text s)
+  pub holds-word : (l : Words) → t ≡ W l → false ≡ fits c t (text (meaning t s))
   unfolding fits
   holds-word l h = rw h
 
@@ -148,7 +141,7 @@ module _ (c : Context) (t : FieldType) (bytes : List ℕ) (a l : ℤ) (x : Bool)
     pub range-end-fits : length bytes < 2 ^ 64 → Fits w64 (p + n)
     range-end-fits k = omega (arith, range-end)
 
-    pub range-by : (y : Bool) → y ≡ fits c t (text (take (p + n - p) (drop p bytes))) → y ≡ rangeFits c t bytes a l
+    pub range-by : (y : Bool) → y ≡ fits c t (text (meaning t (take (p + n - p) (drop p bytes)))) → y ≡ rangeFits c t bytes a l
     unfolding rangeFits
     range-by y k = let z : p + n - p ≡ natAbs l = omega (arith, long-is) in rw (sym lies-is ∙ not-false x h) (rw (z, first-is) at k)
 
@@ -189,11 +182,8 @@ module _ (c : Context) (bytes : List ℕ) (a b : ℤ) (fa : SFits w64 a) (fb : S
   range-same : (t : FieldType) (x : Bool) → x ≡ rangeFits c t bytes (back a) (back b) → x ≡ rangeFits c t bytes a b
   range-same t x e = e ∙ rw (toZ-ofZ w64 a fa, toZ-ofZ w64 b fb)
 
-  pub field-text : (t : FieldType) (x : Bool) → t ≡ T → x ≡ rangeFits c t bytes (back a) (back b) → x ≡ fieldFits c t bytes a b
-  field-text t x h e = rw h (range-same T x (rw h at e))
-
-  pub field-reference : (t : FieldType) (x : Bool) → t ≡ Ref → x ≡ rangeFits c t bytes (back a) (back b) → x ≡ fieldFits c t bytes a b
-  field-reference t x h e = rw h (range-same Ref x (rw h at e))
+  pub field-text : (t : FieldType) (k : Texts) (x : Bool) → t ≡ T k → x ≡ rangeFits c t bytes (back a) (back b) → x ≡ fieldFits c t bytes a b
+  field-text t k x h e = rw h (range-same (T k) x (rw h at e))
 
   pub field-date : (t : FieldType) (x : Bool) → t ≡ D → x ≡ rangeFits c t bytes (back a) (back b) → x ≡ fieldFits c t bytes a b
   field-date t x h e = rw h (range-same D x (rw h at e))

@@ -18,8 +18,9 @@ use Rattle.law.specs.Fits.{meaning, fits, fitsAll, fitsBy, wellFormed, WellForm
 use Rattle.law.specs.declared.Context.{Context}
 use Rattle.law.specs.declared.Words.{Words}
 use Rattle.law.specs.declared.FieldType.{FieldType}
-use Rattle.law.specs.declared.FieldType.the-variants.{Text as T, Reference as Ref, Date as D, Integer as I, Number as N, Word as W}
-use Rattle.law.specs.Rows.{isText, isNumber, Means, none, aNumber, aWord, aDate, aText, Holds}
+use Rattle.basics.proofs.Meanings.{date-meaning}
+use Rattle.law.specs.declared.FieldType.the-variants.{Text as T, Date as D, Integer as I, Number as N, Word as W}
+use Rattle.law.specs.Rows.{isNumber, Means, none, aNumber, aWord, aDate, aText, Holds}
 use Rattle.write_columns.specs.Columns.{liesIn, rangeFits, integerFits, wordFits, fieldFits, allZero, fieldsFit, rowFits}
 use Rattle.write_columns.specs.Records.{valueIn, valuesIn, recordIn}
 
@@ -50,8 +51,7 @@ record Told (c : Context) (bytes : List ℕ) (t : FieldType) (a b : ℤ) (v : Va
 module _ (c : Context) (bytes : List ℕ) where
   number-told : (t : FieldType) (z b : ℤ) → isNumber t ≡ true → (widthOf t ≡ 1) × Told c bytes t z b (number z)
   unfolding fits integerFits
-  number-told T z b h = absurd (false≢true h)
-  number-told Ref z b h = absurd (false≢true h)
+  number-told (T k) z b h = absurd (false≢true h)
   number-told D z b h = absurd (false≢true h)
   number-told I z b h = (refl, record { fit = refl; value = refl })
   number-told (N l) z b h = (refl, record { fit = refl; value = refl })
@@ -61,18 +61,9 @@ module _ (c : Context) (bytes : List ℕ) where
   unfolding fits wordFits
   word-told l n b = record { fit = refl; value = refl }
 
-  range-told : (t : FieldType) (a l : ℕ) → a + l ≤ length bytes → rangeFits c t bytes (pos a) (pos l) ≡ fits c t (text (take l (drop a bytes)))
+  range-told : (t : FieldType) (a l : ℕ) → a + l ≤ length bytes → rangeFits c t bytes (pos a) (pos l) ≡ fits c t (text (meaning t (take l (drop a bytes))))
   unfolding rangeFits
   range-told t a l h = rw (lies (length bytes) a l h)
-
-  text-told : (t : FieldType) (a l : ℕ) → isText t ≡ true → a + l ≤ length bytes → (widthOf t ≡ 2) × Told c bytes t (pos a) (pos l) (text (meaning t (take l (drop a bytes))))
-  unfolding meaning
-  text-told T a l i h = (refl, record { fit = range-told T a l h; value = refl })
-  text-told Ref a l i h = (refl, record { fit = range-told Ref a l h; value = refl })
-  text-told D a l i h = absurd (false≢true i)
-  text-told I a l i h = absurd (false≢true i)
-  text-told (N m) a l i h = absurd (false≢true i)
-  text-told (W m) a l i h = absurd (false≢true i)
 
   -- the same of values from column k on
   module _ (row : List ℤ) where
@@ -108,14 +99,14 @@ module _ (c : Context) (bytes : List ℕ) where
         let zs = cs ++ replicate n (pos 0) in
         let v = text (take l (drop a bytes)) in
         let g = column-behind row k (pos a) (pos l ∷ zs) e in
-        let x : Told c bytes D (pos a) (pos l) v = record { fit = range-told D a l h; value = refl } in
+        let x : Told c bytes D (pos a) (pos l) v = record { fit = range-told D a l h ∙ rw (date-meaning (take l (drop a bytes))); value = refl } in
         one-more D ts k 2 v vs refl (rw (column-here row k (pos a) (pos l ∷ zs) e, column-here row (k + 1) (pos l) zs g) x) (all-told m (k + 2) n (two-on k (pos l) zs g))
-    all-told (aText {t = t} {a = a} {l = l} {ts = ts} {cs = cs} {vs = vs} i h m) k n e =
+    all-told (aText {k = j} {a = a} {l = l} {ts = ts} {cs = cs} {vs = vs} h m) k n e =
         let zs = cs ++ replicate n (pos 0) in
-        let v = text (meaning t (take l (drop a bytes))) in
+        let v = text (meaning (T j) (take l (drop a bytes))) in
         let g = column-behind row k (pos a) (pos l ∷ zs) e in
-        let x = text-told t a l i h in
-        one-more t ts k 2 v vs (x .0) (rw (column-here row k (pos a) (pos l ∷ zs) e, column-here row (k + 1) (pos l) zs g) (x .1)) (all-told m (k + 2) n (two-on k (pos l) zs g))
+        let x : Told c bytes (T j) (pos a) (pos l) v = record { fit = range-told (T j) a l h; value = refl } in
+        one-more (T j) ts k 2 v vs refl (rw (column-here row k (pos a) (pos l ∷ zs) e, column-here row (k + 1) (pos l) zs g) x) (all-told m (k + 2) n (two-on k (pos l) zs g))
 
   -- by the layout of its kind
   by-kind : (k : ℕ) (vs : List Value) → (isKind (c .rules) k && fitsAll c (typesOf (c .rules) k) vs) ≡ wellFormed c (record { kind = k; values = vs })

@@ -22,10 +22,12 @@ use Rattle.form_layouts.specs.Letters.{widthOf, widths, knownBy, isKind}
 use Rattle.law.specs.Fits.{meaning, fits, fitsAll, fitsBy, wellFormed, WellFormed}
 use Rattle.law.specs.declared.Context.{Context}
 use Rattle.law.specs.declared.Words.{Words}
+use Rattle.law.specs.declared.Texts.{Texts}
 use Rattle.law.specs.declared.FieldType.{FieldType}
-use Rattle.law.specs.declared.FieldType.the-variants.{Text as T, Reference as Ref, Date as D, Integer as I, Number as N, Word as W}
+use Rattle.basics.proofs.Meanings.{date-meaning}
+use Rattle.law.specs.declared.FieldType.the-variants.{Text as T, Date as D, Integer as I, Number as N, Word as W}
 use Rattle.form_layouts.proofs.KindLaws.{nine}
-use Rattle.law.specs.Rows.{width, isText, Means, none, aNumber, aWord, aDate, aText, Holds}
+use Rattle.law.specs.Rows.{width, Means, none, aNumber, aWord, aDate, aText, Holds}
 use Rattle.rows_texts.specs.Texts.{textAt}
 use Rattle.write_columns.specs.Columns.{liesIn, rangeFits, integerFits, wordFits, columnFits, allZero, fieldsFit, kindIn, rowFits}
 use Rattle.write_columns.specs.Records.{valueIn, valuesIn, recordIn}
@@ -110,11 +112,11 @@ module _ (c : Context) (bytes : List ℕ) (row : List ℤ) (wide : length row �
       → Means bytes (W l ∷ ts) (z ∷ cs) (word (natAbs z) ∷ vs)
   word-means l ts z cs vs e m = subst (λ (x : ℤ). Means bytes (W l ∷ ts) (x ∷ cs) (word (natAbs z) ∷ vs)) (sym e) (aWord m)
 
-  text-means : (t : FieldType) (ts : List FieldType) (a b : ℤ) (cs : List ℤ) (vs : List Value) → isText t ≡ true → liesIn (length bytes) a b ≡ true → Means bytes ts cs vs
-      → Means bytes (t ∷ ts) (a ∷ b ∷ cs) (text (meaning t (textAt bytes a b)) ∷ vs)
-  text-means t ts a b cs vs h l m =
-      subst₂ (λ (x y : ℤ). Means bytes (t ∷ ts) (x ∷ y ∷ cs) (text (meaning t (textAt bytes a b)) ∷ vs)) (sym (start-plain bytes a b l)) (sym (length-plain bytes a b l))
-      (aText h (inside bytes a b l) m)
+  text-means : (k : Texts) (ts : List FieldType) (a b : ℤ) (cs : List ℤ) (vs : List Value) → liesIn (length bytes) a b ≡ true → Means bytes ts cs vs
+      → Means bytes (T k ∷ ts) (a ∷ b ∷ cs) (text (meaning (T k) (textAt bytes a b)) ∷ vs)
+  text-means k ts a b cs vs l m =
+      subst₂ (λ (x y : ℤ). Means bytes (T k ∷ ts) (x ∷ y ∷ cs) (text (meaning (T k) (textAt bytes a b)) ∷ vs)) (sym (start-plain bytes a b l)) (sym (length-plain bytes a b l))
+      (aText (inside bytes a b l) m)
 
   date-means : (ts : List FieldType) (a b : ℤ) (cs : List ℤ) (vs : List Value) → liesIn (length bytes) a b ≡ true → Means bytes ts cs vs
       → Means bytes (D ∷ ts) (a ∷ b ∷ cs) (text (textAt bytes a b) ∷ vs)
@@ -129,24 +131,24 @@ module _ (c : Context) (bytes : List ℕ) (row : List ℤ) (wide : length row �
     abbrev second : ℤ
     second = columnAt row (k + 1)
 
-    text-held : (t : FieldType) → isText t ≡ true → k + 1 < width → rangeFits c t bytes first second ≡ true → Held c bytes row ts (k + 2) vs
-        → Held c bytes row (t ∷ ts) k (text (textAt bytes first second) ∷ vs)
-    unfolding rangeFits meaning
-    text-held t h w f r =
+    text-held : (j : Texts) → k + 1 < width → rangeFits c (T j) bytes first second ≡ true → Held c bytes row ts (k + 2) vs
+        → Held c bytes row (T j ∷ ts) k (text (meaning (T j) (textAt bytes first second)) ∷ vs)
+    unfolding rangeFits
+    text-held j w f r =
         let p = and-left (liesIn (length bytes) first second) _ f in
-        two t ts k (text (textAt bytes first second)) vs w (and-right (liesIn (length bytes) first second) _ f) (λ cs m. text-means t ts first second cs vs h p m) r
+        two (T j) ts k (text (meaning (T j) (textAt bytes first second))) vs w (and-right (liesIn (length bytes) first second) _ f) (λ cs m. text-means j ts first second cs vs p m) r
 
     date-held : k + 1 < width → rangeFits c D bytes first second ≡ true → Held c bytes row ts (k + 2) vs → Held c bytes row (D ∷ ts) k (text (textAt bytes first second) ∷ vs)
     unfolding rangeFits
     date-held w f r =
         let p = and-left (liesIn (length bytes) first second) _ f in
-        two D ts k (text (textAt bytes first second)) vs w (and-right (liesIn (length bytes) first second) _ f) (λ cs m. date-means ts first second cs vs p m) r
+        let g = and-right (liesIn (length bytes) first second) _ f in
+        two D ts k (text (textAt bytes first second)) vs w (rw (date-meaning (textAt bytes first second)) at g) (λ cs m. date-means ts first second cs vs p m) r
 
     one-held : (t : FieldType) → k + widthOf t ≤ width → columnFits c t bytes row k ≡ true → Held c bytes row ts (k + widthOf t) vs
         → Held c bytes row (t ∷ ts) k (valueIn t bytes first second ∷ vs)
     unfolding fits integerFits wordFits
-    one-held T w f r = text-held T refl (omega arith) f r
-    one-held Ref w f r = text-held Ref refl (omega arith) f r
+    one-held (T j) w f r = text-held j (omega arith) f r
     one-held D w f r = date-held (omega arith) f r
     one-held I w f r = one I ts k (number first) vs (omega arith) f (λ cs m. aNumber refl m) r
     one-held (N l) w f r = one (N l) ts k (number first) vs (omega arith) f (λ cs m. aNumber refl m) r

@@ -11,21 +11,21 @@ use Rattle.law.specs.Limits.{largestInteger, below}
 use Rattle.law.specs.Values.{number, text}
 use Rattle.form_layouts.specs.Letters.{widthOf, isKind}
 use Rattle.law.specs.Layouts.{typesOf}
-use Rattle.law.specs.Fits.{goodWord, fits}
+use Rattle.law.specs.Fits.{goodWord, meaning, fits}
 use Rattle.law.specs.declared.Rules.{Rules}
 use Rattle.law.specs.declared.Context.{Context}
 use Rattle.law.specs.declared.Words.{Words}
 use Rattle.law.specs.declared.FieldType.{FieldType}
-use Rattle.law.specs.declared.FieldType.the-variants.{Text as T, Reference as Ref, Date as D, Integer as I, Number as N, Word as W}
+use Rattle.law.specs.declared.FieldType.the-variants.{Text as T, Date as D, Integer as I, Number as N, Word as W}
 use Rattle.rows_texts.specs.Texts.{textAt}
 
 -- a start and a length, neither below zero, whose end is not past n bytes
 unfoldable pub liesIn : ℕ → ℤ → ℤ → Bool
 liesIn n a l = not (below a || below l) && (leb (natAbs l) n && leb (natAbs a) (n - natAbs l))
 
--- bytes that may be held at a field of a type
+-- bytes whose meaning may be held at a field of a type
 unfoldable pub rangeFits : Context → FieldType → List ℕ → ℤ → ℤ → Bool
-rangeFits c t bytes a l = liesIn (length bytes) a l && fits c t (text (textAt bytes a l))
+rangeFits c t bytes a l = liesIn (length bytes) a l && fits c t (text (meaning t (textAt bytes a l)))
 
 unfoldable pub integerFits : ℤ → Bool
 integerFits z = leb (natAbs z) largestInteger
@@ -36,8 +36,7 @@ wordFits v l z = not (below z) && goodWord v l (natAbs z)
 
 -- columns a and b hold a value of a type; b counts for a text or a date only
 abbrev pub fieldFits : Context → FieldType → List ℕ → ℤ → ℤ → Bool
-fieldFits c T bytes a b = rangeFits c T bytes a b
-fieldFits c Ref bytes a b = rangeFits c Ref bytes a b
+fieldFits c (T k) bytes a b = rangeFits c (T k) bytes a b
 fieldFits c D bytes a b = rangeFits c D bytes a b
 fieldFits c I bytes a b = integerFits a
 fieldFits c (N l) bytes a b = fits c (N l) (number a)

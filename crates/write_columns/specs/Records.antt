@@ -6,16 +6,16 @@ use Rattle.rows.specs.Columns.{columnAt}
 use Rattle.law.specs.Values.{Value, number, word, text, Rec}
 use Rattle.form_layouts.specs.Letters.{widthOf}
 use Rattle.law.specs.Layouts.{typesOf}
+use Rattle.law.specs.Fits.{meaning}
 use Rattle.law.specs.declared.Rules.{Rules}
 use Rattle.law.specs.declared.FieldType.{FieldType}
-use Rattle.law.specs.declared.FieldType.the-variants.{Text as T, Reference as Ref, Date as D, Integer as I, Number as N, Word as W}
+use Rattle.law.specs.declared.FieldType.the-variants.{Text as T, Date as D, Integer as I, Number as N, Word as W}
 use Rattle.rows_texts.specs.Texts.{textAt}
 use Rattle.write_columns.specs.Columns.{kindIn}
 
 -- the value in columns a and b; b counts for a text or a date only
 abbrev pub valueIn : FieldType → List ℕ → ℤ → ℤ → Value
-valueIn T bytes a b = text (textAt bytes a b)
-valueIn Ref bytes a b = text (textAt bytes a b)
+valueIn (T k) bytes a b = text (meaning (T k) (textAt bytes a b))
 valueIn D bytes a b = text (textAt bytes a b)
 valueIn I bytes a b = number a
 valueIn (N l) bytes a b = number a

@@ -12,7 +12,7 @@ ghost use lib.ListN.{drop};
 ghost use Rattle.law.specs.Bytes.{allOf};
 ghost use Rattle.law.specs.Values.{text};
 ghost use Rattle.law.specs.Layouts.{typesOf};
-ghost use Rattle.law.specs.Fits.{textByte, fits};
+ghost use Rattle.law.specs.Fits.{textByte, meaning, fits};
 ghost use Rattle.write_columns.specs.Columns.{liesIn, wordFits, integerFits, rangeFits, fieldFits, columnFits, allZero, fieldsFit, rowFits};
 
 // Whether a byte may stand in a text: it is permitted, and no quote.
@@ -36,13 +36,12 @@ fn is_text(s: &[u8]) -> bool
     true
 }
 
-// Whether bytes may be held at a field of a type; none but texts and dates are held as bytes.
+// Whether what bytes mean may be held at a field of a type; none but texts and dates are held as bytes.
 fn holds_bytes(c: Context, t: FieldType, s: &[u8]) -> bool
-    ensures { λ r. ⌜ r ≡ fits c t (text (now (s .entry))) ⌝ }
+    ensures { λ r. ⌜ r ≡ fits c t (text (meaning t (now (s .entry)))) ⌝ }
 {
     match t {
-        FieldType::Text => is_text(s),
-        FieldType::Reference => is_text(s) & !line_fields::is_barred(c, s),
+        FieldType::Text(k) => !line_fields::is_barred(c, k, s) & is_text(s),
         FieldType::Date => number_read::is_date(s),
         FieldType::Integer => false,
         FieldType::Number(_) => false,
@@ -102,8 +101,7 @@ fn field_fits(c: Context, t: FieldType, bytes: &[u8], a: i64, b: i64) -> bool
     ensures { λ r. ⌜ r ≡ fieldFits c t (now (bytes .entry)) a b ⌝ }
 {
     match t {
-        FieldType::Text => range_fits(c, t, bytes, a, b),
-        FieldType::Reference => range_fits(c, t, bytes, a, b),
+        FieldType::Text(_) => range_fits(c, t, bytes, a, b),
         FieldType::Date => range_fits(c, t, bytes, a, b),
         FieldType::Integer => integer_fits(a),
         FieldType::Number(l) => line_fields::is_within(c, l, a),

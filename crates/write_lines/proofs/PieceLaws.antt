@@ -31,8 +31,10 @@ use Rattle.law.specs.declared.Rules.the-variants.{Idf3}
 use Rattle.law.specs.declared.Words.{Words}
 use Rattle.law.specs.declared.Limit.{Limit}
 use Rattle.law.specs.declared.Limit.the-variants.{Length as L, NotBelow as L0, Above as Lp, Included as A, Rotation as R, Version as Ver}
+use Rattle.law.specs.declared.Texts.{Texts}
 use Rattle.law.specs.declared.FieldType.{FieldType}
-use Rattle.law.specs.declared.FieldType.the-variants.{Text as T, Reference as Ref, Date as D, Integer as I, Number as N, Word as W}
+use Rattle.basics.proofs.Meanings.{itself}
+use Rattle.law.specs.declared.FieldType.the-variants.{Text as T, Date as D, Integer as I, Number as N, Word as W}
 use Rattle.form_words.proofs.RowLaws.{word-held}
 use Rattle.law.specs.Canonical.{needsQuotes, versionText, printedNumber, canonicalField, written}
 use Rattle.order.specs.Automaton.{roleNumber}
@@ -40,7 +42,7 @@ use Rattle.rows_texts.specs.Texts.{textAt}
 use Rattle.law.specs.Answers.{limit}
 use Rattle.write_columns.specs.Columns.{liesIn, rangeFits, integerFits, fieldFits, columnFits}
 use Rattle.write_columns.proofs.ColumnLaws.{lies-ends}
-use Rattle.write_lines.specs.LineText.{anywhere, upTo, markOf, nameAt, behindOf, frontText, valueText, endedText, columnText}
+use Rattle.write_lines.specs.LineText.{anywhere, upTo, markOf, nameAt, behindOf, frontText, partText, valueText, endedText, columnText}
 
 -- a piece by another name
 module _ {p q : List ℕ} where
@@ -192,8 +194,8 @@ module _ (bytes : List ℕ) (a l : ℤ) (h : liesIn (length bytes) a l ≡ true)
   pub date-is : take (p + n - p) (drop p bytes) ≡ textAt bytes a l
   date-is = part-is
 
-  pub text-is : written (field (needsQuotes (take (p + n - p) (drop p bytes))) (take (p + n - p) (drop p bytes))) ≡ written (field (needsQuotes (textAt bytes a l)) (textAt bytes a l))
-  text-is = rw part-is
+  pub text-is : (k : Texts) → written (field (needsQuotes (take (p + n - p) (drop p bytes))) (take (p + n - p) (drop p bytes))) ≡ partText k bytes a l
+  text-is k = rw (itself (T k) (textAt bytes a l)) (rw part-is)
 
 text-length : (bytes : List ℕ) (a l : ℤ) → liesIn (length bytes) a l ≡ true → length (textAt bytes a l) ≡ natAbs l
 text-length bytes a l h = omega (arith, length-take (natAbs l) (drop (natAbs a) bytes), length-drop (natAbs a) bytes, lies-ends (length bytes) a l h)
@@ -231,13 +233,9 @@ small-back z f h = rw (toZ-ofZ w64 z f) h
 -- values
 module _ (v : Rules) (t : FieldType) (bytes : List ℕ) (a b : ℤ) (fa : SFits w64 a) where
   module _ (fb : SFits w64 b) where
-    pub value-text : t ≡ T → written (field (needsQuotes (textAt bytes (back a) (back b))) (textAt bytes (back a) (back b))) ≡ valueText v t bytes a b
+    pub value-text : (k : Texts) → t ≡ T k → partText k bytes (back a) (back b) ≡ valueText v t bytes a b
     unfolding valueText canonicalField
-    value-text h = rw (h, toZ-ofZ w64 a fa, toZ-ofZ w64 b fb)
-
-    pub value-reference : t ≡ Ref → written (field (needsQuotes (textAt bytes (back a) (back b))) (textAt bytes (back a) (back b))) ≡ valueText v t bytes a b
-    unfolding valueText canonicalField
-    value-reference h = rw (h, toZ-ofZ w64 a fa, toZ-ofZ w64 b fb)
+    value-text k h = rw (h, toZ-ofZ w64 a fa, toZ-ofZ w64 b fb)
 
     pub value-date : t ≡ D → textAt bytes (back a) (back b) ≡ valueText v t bytes a b
     unfolding valueText canonicalField written
@@ -248,11 +246,8 @@ module _ (v : Rules) (t : FieldType) (bytes : List ℕ) (a b : ℤ) (fa : SFits 
       unfolding rangeFits
       lies-in k = rw (toZ-ofZ w64 a fa, toZ-ofZ w64 b fb) (and-left (liesIn (length bytes) a b) _ k)
 
-      pub lies-text : t ≡ T → liesIn (length bytes) (back a) (back b) ≡ true
-      lies-text h = lies-in (rw h (rw h at g))
-
-      pub lies-reference : t ≡ Ref → liesIn (length bytes) (back a) (back b) ≡ true
-      lies-reference h = lies-in (rw h (rw h at g))
+      pub lies-text : (k : Texts) → t ≡ T k → liesIn (length bytes) (back a) (back b) ≡ true
+      lies-text k h = lies-in (rw h (rw h at g))
 
       pub lies-date : t ≡ D → liesIn (length bytes) (back a) (back b) ≡ true
       lies-date h = lies-in (rw h (rw h at g))

@@ -3,23 +3,23 @@ use crate::fronts;
 use law::FieldType;
 use law::Limit;
 use law::Rules;
+use law::Texts;
 ghost use mathlib.Core.Path.{_≡_};
 ghost use mathlib.Core.Bool.{true};
 ghost use Prim.Native.Nat.{_+_, _≤_};
 ghost use lib.IntN.{natAbs};
 ghost use lib.ListN.{length};
-ghost use Rattle.law.specs.Fields.{field};
 ghost use Rattle.law.specs.Limits.{largestLength};
 ghost use Rattle.number_print.specs.Printing.{Wrote};
-ghost use Rattle.law.specs.Canonical.{needsQuotes, versionText, printedNumber, written};
+ghost use Rattle.law.specs.Canonical.{versionText, printedNumber};
 ghost use Rattle.rows_texts.specs.Texts.{textAt};
 ghost use Rattle.write_columns.specs.Columns.{liesIn, fieldFits};
-ghost use Rattle.write_lines.specs.LineText.{anywhere, valueText, endedText};
+ghost use Rattle.write_lines.specs.LineText.{anywhere, partText, valueText, endedText};
 
 // How many bytes a text takes, with its quotes.
-fn part_len(bytes: &[u8], start: i64, len: i64) -> usize
+fn part_len(k: Texts, bytes: &[u8], start: i64, len: i64) -> usize
     requires { ⌜ liesIn (length (now bytes)) start len ≡ true ⌝ }
-    ensures { λ r. ⌜ r ≡ length (written (field (needsQuotes (textAt (now (bytes .entry)) start len)) (textAt (now (bytes .entry)) start len))) ⌝ }
+    ensures { λ r. ⌜ r ≡ length (partText k (now (bytes .entry)) start len) ⌝ }
 {
     let a = number::magnitude(start) as usize;
     let n = number::magnitude(len) as usize;
@@ -27,9 +27,9 @@ fn part_len(bytes: &[u8], start: i64, len: i64) -> usize
 }
 
 // A text, with its quotes.
-fn put_part(out: &mut [u8], at: usize, bytes: &[u8], start: i64, len: i64) -> usize
-    requires { ⌜ (liesIn (length (now bytes)) start len ≡ true) × (at + length (written (field (needsQuotes (textAt (now bytes) start len)) (textAt (now bytes) start len))) ≤ length (now out)) ⌝ }
-    ensures { λ r. ⌜ Wrote (now (out .entry)) (now (out .exit)) at r (written (field (needsQuotes (textAt (now (bytes .entry)) start len)) (textAt (now (bytes .entry)) start len))) ⌝ }
+fn put_part(out: &mut [u8], at: usize, k: Texts, bytes: &[u8], start: i64, len: i64) -> usize
+    requires { ⌜ (liesIn (length (now bytes)) start len ≡ true) × (at + length (partText k (now bytes) start len) ≤ length (now out)) ⌝ }
+    ensures { λ r. ⌜ Wrote (now (out .entry)) (now (out .exit)) at r (partText k (now (bytes .entry)) start len) ⌝ }
 {
     let a = number::magnitude(start) as usize;
     let n = number::magnitude(len) as usize;
@@ -101,8 +101,7 @@ pub(crate) fn value_len(v: Rules, t: FieldType, bytes: &[u8], a: i64, b: i64) ->
     ensures { λ r. ⌜ r ≡ length (valueText v t (now (bytes .entry)) a b) ⌝ }
 {
     match t {
-        FieldType::Text => part_len(bytes, a, b),
-        FieldType::Reference => part_len(bytes, a, b),
+        FieldType::Text(k) => part_len(k, bytes, a, b),
         FieldType::Date => number::magnitude(b) as usize,
         FieldType::Integer => number_print::integer_len(a),
         FieldType::Number(l) => number_len(v, l, a),
@@ -127,8 +126,7 @@ fn put_value(
     ensures { λ r. ⌜ Wrote (now (out .entry)) (now (out .exit)) at r (valueText v t (now (bytes .entry)) a b) ⌝ }
 {
     match t {
-        FieldType::Text => put_part(out, at, bytes, a, b),
-        FieldType::Reference => put_part(out, at, bytes, a, b),
+        FieldType::Text(k) => put_part(out, at, k, bytes, a, b),
         FieldType::Date => put_date(out, at, bytes, a, b),
         FieldType::Integer => number_print::put_integer(out, at, a),
         FieldType::Number(l) => put_number(out, at, v, l, a),

@@ -1,10 +1,16 @@
 -- `line_fields::quoted_field` meets its contract. Assumes nothing.
 use borrow.Author.Needs.{needs}
-use Rattle.line_fields.proofs.FieldLaws.{field-text, field-reference, quoted-date, quoted-integer, quoted-number, quoted-word}
+use Rattle.line_fields.proofs.FieldLaws.{field-text, quoted-date, quoted-integer, quoted-number, quoted-word}
 use Rattle.line_fields.proofs.quoted_field.Statement.{statement}
 use Rattle.line_fields.proofs.quoted_field.Tie as tie
 
-ruleset laws = (field-text, field-reference, quoted-date, quoted-integer, quoted-number, quoted-word, needs)
+ruleset laws = (field-text, quoted-date, quoted-integer, quoted-number, quoted-word, needs)
+
+enum-known-t : tie.Need-enum-known-t
+enum-known-t c = search laws
+
+text-field-requires : tie.Need-text-field-requires
+text-field-requires c κs = search laws
 
 enum-told : tie.Need-enum-told
 enum-told c = search laws
@@ -12,20 +18,11 @@ enum-told c = search laws
 enum-told-2 : tie.Need-enum-told-2
 enum-told-2 c = search laws
 
-reference-field-requires : tie.Need-reference-field-requires
-reference-field-requires c κs = search laws
-
 enum-told-3 : tie.Need-enum-told-3
 enum-told-3 c = search laws
 
 enum-told-4 : tie.Need-enum-told-4
 enum-told-4 c = search laws
-
-enum-told-5 : tie.Need-enum-told-5
-enum-told-5 c = search laws
-
-enum-told-6 : tie.Need-enum-told-6
-enum-told-6 c = search laws
 
 returns : tie.Need-returns
 returns c = search laws
@@ -42,10 +39,7 @@ returns-4 c = search laws
 returns-5 : tie.Need-returns-5
 returns-5 c = search laws
 
-returns-6 : tie.Need-returns-6
-returns-6 c = search laws
-
 pub quoted-field-spec : {M : Type 1} → statement M
 quoted-field-spec =
     tie.close
-    (tie.spec enum-told enum-told-2 reference-field-requires enum-told-3 enum-told-4 enum-told-5 enum-told-6 returns returns-2 returns-3 returns-4 returns-5 returns-6)
+    (tie.spec enum-known-t text-field-requires enum-told enum-told-2 enum-told-3 enum-told-4 returns returns-2 returns-3 returns-4 returns-5)

@@ -1,10 +1,10 @@
 -- `write_columns::field_fits` meets its contract. Assumes nothing.
 use borrow.Author.Needs.{needs}
-use Rattle.write_columns.proofs.ColumnLaws.{field-text, field-reference, field-date, field-integer, field-number, field-word}
+use Rattle.write_columns.proofs.ColumnLaws.{field-text, field-date, field-integer, field-number, field-word}
 use Rattle.write_columns.proofs.field_fits.Statement.{statement}
 use Rattle.write_columns.proofs.field_fits.Tie as tie
 
-ruleset laws = (field-text, field-reference, field-date, field-integer, field-number, field-word, needs)
+ruleset laws = (field-text, field-date, field-integer, field-number, field-word, needs)
 
 enum-told : tie.Need-enum-told
 enum-told c = search laws
@@ -20,12 +20,6 @@ range-fits-requires-2 c κs = search laws
 
 enum-told-3 : tie.Need-enum-told-3
 enum-told-3 c = search laws
-
-range-fits-requires-3 : tie.Need-range-fits-requires-3
-range-fits-requires-3 c κs = search laws
-
-enum-told-4 : tie.Need-enum-told-4
-enum-told-4 c = search laws
 
 integer-fits-requires : tie.Need-integer-fits-requires
 integer-fits-requires c κs = search laws
@@ -57,10 +51,7 @@ returns-4 c = search laws
 returns-5 : tie.Need-returns-5
 returns-5 c = search laws
 
-returns-6 : tie.Need-returns-6
-returns-6 c = search laws
-
 pub field-fits-spec : {M : Type 1} → statement M
 field-fits-spec =
     tie.close
-    (tie.spec enum-told range-fits-requires enum-told-2 range-fits-requires-2 enum-told-3 range-fits-requires-3 enum-told-4 integer-fits-requires enum-known-t is-within-requires enum-known-t-2 word-fits-requires returns returns-2 returns-3 returns-4 returns-5 returns-6)
+    (tie.spec enum-told range-fits-requires enum-told-2 range-fits-requires-2 enum-told-3 integer-fits-requires enum-known-t is-within-requires enum-known-t-2 word-fits-requires returns returns-2 returns-3 returns-4 returns-5)

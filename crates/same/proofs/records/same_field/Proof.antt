@@ -9,38 +9,38 @@ ruleset laws = (column-within, second-within, second-fits, field-bytes, field-co
 holds-bytes-requires : tie.Need-holds-bytes-requires
 holds-bytes-requires c κs = search laws
 
-mul-same-texts : tie.Need-mul-same-texts
-mul-same-texts c = search laws
+mul-same-meanings : tie.Need-mul-same-meanings
+mul-same-meanings c = search laws
 
-array-copy-out-same-texts : tie.Need-array-copy-out-same-texts
-array-copy-out-same-texts c = search laws
+array-copy-out-same-meanings : tie.Need-array-copy-out-same-meanings
+array-copy-out-same-meanings c = search laws
 
-add-same-texts : tie.Need-add-same-texts
-add-same-texts c = search laws
+add-same-meanings : tie.Need-add-same-meanings
+add-same-meanings c = search laws
 
-mul-same-texts-2 : tie.Need-mul-same-texts-2
-mul-same-texts-2 c = search laws
+mul-same-meanings-2 : tie.Need-mul-same-meanings-2
+mul-same-meanings-2 c = search laws
 
-array-copy-out-same-texts-2 : tie.Need-array-copy-out-same-texts-2
-array-copy-out-same-texts-2 c = search laws
+array-copy-out-same-meanings-2 : tie.Need-array-copy-out-same-meanings-2
+array-copy-out-same-meanings-2 c = search laws
 
-mul-same-texts-3 : tie.Need-mul-same-texts-3
-mul-same-texts-3 c = search laws
+mul-same-meanings-3 : tie.Need-mul-same-meanings-3
+mul-same-meanings-3 c = search laws
 
-array-copy-out-same-texts-3 : tie.Need-array-copy-out-same-texts-3
-array-copy-out-same-texts-3 c = search laws
+array-copy-out-same-meanings-3 : tie.Need-array-copy-out-same-meanings-3
+array-copy-out-same-meanings-3 c = search laws
 
-add-same-texts-2 : tie.Need-add-same-texts-2
-add-same-texts-2 c = search laws
+add-same-meanings-2 : tie.Need-add-same-meanings-2
+add-same-meanings-2 c = search laws
 
-mul-same-texts-4 : tie.Need-mul-same-texts-4
-mul-same-texts-4 c = search laws
+mul-same-meanings-4 : tie.Need-mul-same-meanings-4
+mul-same-meanings-4 c = search laws
 
-array-copy-out-same-texts-4 : tie.Need-array-copy-out-same-texts-4
-array-copy-out-same-texts-4 c = search laws
+array-copy-out-same-meanings-4 : tie.Need-array-copy-out-same-meanings-4
+array-copy-out-same-meanings-4 c = search laws
 
-same-texts-requires : tie.Need-same-texts-requires
-same-texts-requires c κs = search laws
+same-meanings-requires : tie.Need-same-meanings-requires
+same-meanings-requires c κs = search laws
 
 returns : tie.Need-returns
 returns c = search laws
@@ -66,4 +66,4 @@ returns-2 c = search laws
 pub same-field-spec : {M : Type 1} → statement M
 same-field-spec =
     tie.close
-    (tie.spec holds-bytes-requires mul-same-texts array-copy-out-same-texts add-same-texts mul-same-texts-2 array-copy-out-same-texts-2 mul-same-texts-3 array-copy-out-same-texts-3 add-same-texts-2 mul-same-texts-4 array-copy-out-same-texts-4 same-texts-requires returns mul-same-integers array-copy-out-same-integers mul-same-integers-2 array-copy-out-same-integers-2 same-integers-requires returns-2)
+    (tie.spec holds-bytes-requires mul-same-meanings array-copy-out-same-meanings add-same-meanings mul-same-meanings-2 array-copy-out-same-meanings-2 mul-same-meanings-3 array-copy-out-same-meanings-3 add-same-meanings-2 mul-same-meanings-4 array-copy-out-same-meanings-4 same-meanings-requires returns mul-same-integers array-copy-out-same-integers mul-same-integers-2 array-copy-out-same-integers-2 same-integers-requires returns-2)
