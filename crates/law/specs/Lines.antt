@@ -29,7 +29,7 @@ endBytes (b ∷ s) = cond (eqb b 13) 2 1
 abbrev pub placeBehind : List ℕ → ℕ → List ℕ → ℕ
 placeBehind file b line = b + length line + endBytes (drop (b + length line) file)
 
--- the bytes of a file, with the end that its last line may lack
+-- bytes of a file up to a line, with the end that the line lacks if it is the last
 abbrev pub closed : List ℕ → List ℕ
 closed s = cond (endsIn 10 s) s (s ++ 10 ∷ [])
 

@@ -9,12 +9,11 @@ use borrow.Author.Tests.{not-true}
 use lib.Dec.{eqb}
 use lib.ListN.{length, take, drop, length-append, take-append-drop}
 use lib.Seq.{take-add, take-all, take-append-add, take-append-seam}
-use Rattle.law.specs.Bytes as by
 use Rattle.law.specs.Bytes.{inLine, endsIn, All}
 use Rattle.law.specs.Lines as made
 use Rattle.law.specs.Lines.{End, by-10, by-13-10, File, placeBehind, closed}
 use Rattle.text.specs.Lines.{linesOf}
-use Rattle.text.proofs.LineSpelling.{lines-sound, lines-unique}
+use Rattle.text.proofs.LineSpelling.{last-not, lines-sound, lines-unique}
 use Rattle.law.specs.RowPlaces.{startAfter}
 use Rattle.law.specs.Files.{LinesSay, Mendable, Continues}
 use Rattle.law.specs.Given.{Fails}
@@ -70,11 +69,6 @@ last-of a [] b t = refl
 last-of a (c ∷ []) b t = refl
 last-of a (c ∷ d ∷ s) b t = last-of a (d ∷ s) b t
 
-last-in : {b : ℕ} {l : List ℕ} → All inLine (b ∷ l) → endsIn 10 (b ∷ l) ≡ false
-unfolding endsIn
-last-in (by.one {b = b} h by.none) = not-true (eqb b 10) h
-last-in (by.one h (by.one i a)) = last-in (by.one i a)
-
 end-last : {l e : List ℕ} (s : List ℕ) → End l e → endsIn 10 (s ++ (l ++ e)) ≡ true
 unfolding endsIn
 end-last {l} s (by-10 h) = ap (endsIn 10) (sym (append-assoc s l (10 ∷ []))) ∙ last-of 10 (s ++ l) 10 []
@@ -105,7 +99,7 @@ module _ (file : List ℕ) where
       let n : placeBehind file b (d ∷ l) ≡ length file = behind file b h (made.last a) .out refl in
       let w : take (length file) file ≡ file = take-all (length file) file (omega arith) in
       let p : file ≡ take b file ++ (d ∷ l) = sym (take-append-drop b file) ∙ ap (λ (u : List ℕ). take b file ++ u) h in
-      let q : endsIn 10 file ≡ false = ap (endsIn 10) p ∙ last-of 10 (take b file) d l ∙ last-in a in
+      let q : endsIn 10 file ≡ false = ap (endsIn 10) p ∙ last-of 10 (take b file) d l ∙ last-not 10 (λ c h. not-true (eqb c 10) h) a in
       let r : endsIn 13 (d ∷ l) ≡ false = sym (last-of 13 (take b file) d l) ∙ ap (endsIn 13) (sym p) ∙ x refl in
       let z : file ++ (10 ∷ []) ≡ take b file ++ ((d ∷ l) ++ (10 ∷ [])) = ap (λ (u : List ℕ). u ++ (10 ∷ [])) p ∙ append-assoc (take b file) (d ∷ l) (10 ∷ []) in
       rw (n, w, q) (subst (Closed (us ++ ((d ∷ l) ∷ []))) (sym z) (closed-more c a (by-10 r)))

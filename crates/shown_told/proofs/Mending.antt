@@ -6,9 +6,9 @@ use mathlib.Core.Bool.{Bool, true, false, not, false≢true}
 use borrow.Author.Tests.{eqb-true}
 use lib.Dec.{eqb}
 use lib.ListN.{take}
-use Rattle.law.specs.Bytes as by
 use Rattle.law.specs.Bytes.{permitted, inLine, endsIn, All}
 use Rattle.law.specs.Lines.{End, by-10, by-13-10, File, none, last, next}
+use Rattle.text.proofs.LineSpelling.{last-not}
 use Rattle.law.specs.Values.{Rec}
 use Rattle.law.specs.Fits.{under, WellFormed}
 use Rattle.law.specs.declared.Rules.{Rules}
@@ -65,10 +65,8 @@ unfolding permitted
 permitted-in b h = ap not (permitted-is b 10 refl h)
 
 permitted-last : {l : List ℕ} → All permitted l → endsIn 13 l ≡ false
-unfolding permitted endsIn
-permitted-last by.none = refl
-permitted-last (by.one {b = b} h by.none) = permitted-is b 13 refl h
-permitted-last (by.one h (by.one i a)) = permitted-last (by.one i a)
+unfolding permitted
+permitted-last a = last-not 13 (λ b h. permitted-is b 13 refl h) a
 
 module _ {c : Context} {r : Rec} {l : List ℕ} where
   spelled-in : SpellsRecord c r l → All inLine l

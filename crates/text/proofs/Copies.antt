@@ -1,7 +1,7 @@
 -- A file and its Windows copy are made of the same lines.
 use Prim.Native.Nat.{ℕ, suc, _≤_}
 use mathlib.Core.Path.{_≡_, refl, sym, ap, subst, _∙_}
-use mathlib.Core.List.{List, [], _∷_, _++_}
+use mathlib.Core.List.{List, [], _∷_, _++_, append-nil}
 use mathlib.Core.Bool.{Bool, true, false, cond, not, _&&_}
 use native.Mathlib.Omega.{arith}
 use borrow.Author.Tests.{not-true}
@@ -30,8 +30,7 @@ line-copied q s (by.one {b} h a) = rw (not-true (eqb b 10) h) (ap (λ (u : List 
 
 last-copied : {l : List ℕ} (q : Bool) → All inLine l → copied q l ≡ l
 unfolding copied
-last-copied q by.none = refl
-last-copied q (by.one {b} h a) = rw (not-true (eqb b 10) h) (ap (λ (u : List ℕ). b ∷ u) (last-copied (eqb b 13) a))
+last-copied {l} q a = ap (copied q) (sym (append-nil l)) ∙ line-copied q [] a ∙ append-nil l
 
 -- and its end becomes 13 and 10
 end-copied : {l e : List ℕ} (q : Bool) (s : List ℕ) → q ≡ endsIn 13 l → End l e → copied q (e ++ s) ≡ 13 ∷ 10 ∷ windows s

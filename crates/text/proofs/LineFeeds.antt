@@ -2,7 +2,7 @@
 use Prim.Native.Nat.{ℕ, suc, _+_, _-_, _≤_, _<_}
 use mathlib.Core.Path.{_≡_, refl, sym, ap, subst, _∙_}
 use mathlib.Core.Logic.{_≢_}
-use mathlib.Core.List.{List, [], _∷_, _++_}
+use mathlib.Core.List.{List, [], _∷_, _++_, append-nil}
 use mathlib.Core.Bool.{cond, false, false≢true}
 use native.Mathlib.Nat.{add-zero}
 use native.Mathlib.Omega.{arith}
@@ -49,8 +49,7 @@ feed-in u (by.one {b} h a) = rw (not-true (eqb b 10) h) (omega (arith, feed-in u
 
 feed-all : {l : List ℕ} → All inLine l → lineFeed l ≡ length l
 unfolding lineFeed
-feed-all by.none = refl
-feed-all (by.one {b} h a) = rw (not-true (eqb b 10) h) (ap suc (feed-all a))
+feed-all {l} a = ap lineFeed (sym (append-nil l)) ∙ omega (arith, feed-in [] a)
 
 -- the byte behind a line, and its last
 behind-line : (l : List ℕ) (c : ℕ) (u : List ℕ) → getD (l ++ (c ∷ u)) (length l) 0 ≡ c

@@ -16,6 +16,13 @@ use Rattle.text.specs.Lines.{endLen, contentLen, lineEnd, linesOf}
 use Rattle.law.specs.Lines.{End, by-10, by-13-10, File, none, last, next, endBytes, placeBehind}
 use Rattle.text.proofs.LineLaws.{content-le, lines-none, lines-first}
 
+-- bytes of which none is a certain one do not end in it
+pub last-not : {p : ℕ → Bool} {l : List ℕ} (a : ℕ) → ((b : ℕ) → p b ≡ true → eqb b a ≡ false) → All p l → endsIn a l ≡ false
+unfolding endsIn
+last-not a f by.none = refl
+last-not a f (by.one {b = b} h by.none) = f b h
+last-not a f (by.one h (by.one i r)) = last-not a f (by.one i r)
+
 -- a line's end is some bytes, and ends a line without its first byte too
 pub end-some : {l e : List ℕ} → End l e → 0 < length e
 end-some (by-10 h) = omega arith
