@@ -18,13 +18,13 @@ use Rattle.number.specs.Integers.{digits, unsigned, readInteger}
 use Rattle.law.specs.Dates.{datePieces, isTwo, fitsIn, isDate}
 use Rattle.law.specs.Printing.{numeralOf, decimalsOf, magnitudeOf, signOf, printed}
 use Rattle.law.specs.Values.{Rec}
-use Rattle.law.specs.Words.{wordsOf, sameBytes, wordAt}
+use Rattle.law.specs.Words.{wordsOf, sameBytes, wordAt, named, isIn, folded}
 use Rattle.law.specs.Sections.{sectionNames, sections}
-use Rattle.form.specs.Compare.{folded, placeOf}
+use Rattle.form.specs.Compare.{placeOf}
 use Rattle.law.specs.Kinds.{kindAt, sectionOf, lineOf, roleOf}
 use Rattle.law.specs.Layouts.{layoutOf, typesOf}
 use Rattle.form_layouts.specs.Letters.{isKind}
-use Rattle.law.specs.Fits.{kept, within, meaning, barred, isEmpty, goodText, fits}
+use Rattle.law.specs.Fits.{kept, within, meaning, barred, isEmpty, goodText, fits, isName}
 use Rattle.form.specs.Fits.{beyond}
 use Rattle.form.specs.Reading.{readField, lineAs, keyFrom, keywordOf}
 use Rattle.law.specs.declared.Rules.the-variants.{Idf3}
@@ -93,27 +93,34 @@ misquoted = file (".HEADER" ∷ "\"s" ∷ [])
 abbrev begun : List ℕ
 begun = file (".HEADER" ∷ [])
 
--- a board with one part, a library with its entry
-abbrev board : List ℕ
-board =
+-- a board with one part, by its title line, its outline's opening line, and the part's two lines
+abbrev boardOf : String → String → String → String → List ℕ
+boardOf title opening part position =
     file
     (".HEADER"
-    ∷ "BOARD_FILE 3.0 s 2024/05/06.07:08:09 1"
+    ∷ title
     ∷ "n MM"
     ∷ ".END_HEADER"
-    ∷ ".BOARD_OUTLINE MCAD"
+    ∷ opening
     ∷ "1.6"
     ∷ "0 0 0 0"
     ∷ "0 5 0 360"
     ∷ ".END_BOARD_OUTLINE"
     ∷ ".PLACEMENT"
-    ∷ "g p R1"
-    ∷ "1 1 0 90 TOP PLACED"
+    ∷ part
+    ∷ position
     ∷ ".END_PLACEMENT"
     ∷ [])
 
+abbrev board : List ℕ
+board = boardOf "BOARD_FILE 3.0 s 2024/05/06.07:08:09 1" ".BOARD_OUTLINE MCAD" "g p R1" "1 1 0 90 TOP PLACED"
+
+-- a library with the part's entry, electrical or mechanical
+abbrev entryOf : String → String → List ℕ
+entryOf opening closing = library ++ file (opening ∷ "g p MM 1.5" ∷ "0 0 0 0" ∷ "0 1 0 360" ∷ closing ∷ [])
+
 abbrev entry : List ℕ
-entry = library ++ file (".ELECTRICAL" ∷ "g p MM 1.5" ∷ "0 0 0 0" ∷ "0 1 0 360" ∷ ".END_ELECTRICAL" ∷ [])
+entry = entryOf ".ELECTRICAL" ".END_ELECTRICAL"
 
 -- checked, read, compared and judged
 pub answers :
@@ -133,7 +140,7 @@ pub answers :
     × (judgeReply board library ≡ verdict 16 0 1 1)
     × (judgeReply library entry ≡ verdict 17 0 0 1)
     × (judgeReply board board ≡ verdict 17 0 0 2)
-unfolding judgeReply judging.withLibrary judging.matched judging.placed judging.placedFrom examined typeFrom entries.lacksEntry entries.hasEntry entries.entryIn refers sameNames sameTexts sameMeanings textIs sameReply sameLists sameRow sameFrom agreesAt sameField ignoredAt listIn readReply checkReply surveyed endedBy repeatIn usedIn rowsIn traceAt traceIn turnOf lineIn judged ofKind dataBy filledBy kindOf filled fillFrom entryAt lineEnd contentLen endLen lineAs begins allOf permitted fieldsOf fieldsIn fieldOf fieldAt bareAt closedAt quotedAt endsWell span keywordOf keyFrom folded sameBytes placeOf wordsOf sections sectionNames kindAt sectionOf lineOf roleOf layoutOf typesOf keyKind dataKind mayStand mayOpen after moved stepped shapeOf manyLoops loopAfter eqZ meaning barred kept within beyond readField readNumber body whole decimals toCount digitHere readInteger unsigned digits isDate fitsIn isTwo datePieces
+unfolding judgeReply judging.withLibrary judging.matched judging.placed judging.placedFrom examined typeFrom entries.lacksEntry entries.hasEntry entries.entryIn refers sameNames sameTexts sameMeanings textIs sameReply sameLists sameRow sameFrom agreesAt sameField ignoredAt listIn readReply checkReply surveyed endedBy repeatIn usedIn rowsIn traceAt traceIn turnOf lineIn judged ofKind dataBy filledBy kindOf filled fillFrom entryAt lineEnd contentLen endLen lineAs begins allOf permitted fieldsOf fieldsIn fieldOf fieldAt bareAt closedAt quotedAt endsWell span keywordOf keyFrom folded sameBytes placeOf wordsOf sections sectionNames kindAt sectionOf lineOf roleOf layoutOf typesOf keyKind dataKind mayStand mayOpen after moved stepped shapeOf manyLoops loopAfter eqZ meaning isName named isIn barred kept within beyond readField readNumber body whole decimals toCount digitHere readInteger unsigned digits isDate fitsIn isTwo datePieces
 answers = (refl, refl, refl, refl, refl, refl, refl, refl, refl, refl, refl, refl, refl, refl, refl, refl)
 
 -- lines that end with 13 and 10: the Windows copy, and a 13 at the end of a file, which a 10 behind it mends
@@ -148,8 +155,24 @@ pub endings :
     × (sameReply library (windows library) ≡ verdict 0 0 1 0)
     × (checkReply returned ≡ reply 3 4 0)
     × (checkReply mended ≡ reply 0 0 3)
-unfolding copied sameMeanings sameReply sameLists sameRow sameFrom agreesAt sameField ignoredAt listIn readReply checkReply surveyed endedBy repeatIn usedIn rowsIn traceAt traceIn turnOf lineIn judged ofKind dataBy filledBy kindOf filled fillFrom entryAt lineEnd contentLen endLen lineAs begins allOf permitted fieldsOf fieldsIn fieldOf fieldAt bareAt closedAt quotedAt endsWell span keywordOf keyFrom folded sameBytes placeOf wordsOf sections sectionNames kindAt sectionOf lineOf roleOf layoutOf typesOf keyKind dataKind mayStand mayOpen after moved stepped shapeOf manyLoops loopAfter eqZ meaning barred kept within beyond readField readNumber body whole decimals toCount digitHere readInteger unsigned digits isDate fitsIn isTwo datePieces
+unfolding copied sameMeanings sameReply sameLists sameRow sameFrom agreesAt sameField ignoredAt listIn readReply checkReply surveyed endedBy repeatIn usedIn rowsIn traceAt traceIn turnOf lineIn judged ofKind dataBy filledBy kindOf filled fillFrom entryAt lineEnd contentLen endLen lineAs begins allOf permitted fieldsOf fieldsIn fieldOf fieldAt bareAt closedAt quotedAt endsWell span keywordOf keyFrom folded sameBytes placeOf wordsOf sections sectionNames kindAt sectionOf lineOf roleOf layoutOf typesOf keyKind dataKind mayStand mayOpen after moved stepped shapeOf manyLoops loopAfter eqZ meaning isName named isIn barred kept within beyond readField readNumber body whole decimals toCount digitHere readInteger unsigned digits isDate fitsIn isTwo datePieces
 endings = (refl, refl, refl, refl)
+
+-- words in small letters, and norefdes: no electrical part, and the same as in capitals; Board is refused
+abbrev bolt : List ℕ
+bolt = boardOf "BOARD_FILE 3.0 s 2024/05/06.07:08:09 1" ".BOARD_OUTLINE MCAD" "g p NOREFDES" "1 1 0 90 TOP PLACED"
+
+abbrev small-bolt : List ℕ
+small-bolt = boardOf "board_file 3.0 s 2024/05/06.07:08:09 1" ".BOARD_OUTLINE mCaD" "g p norefdes" "1 1 0 90 top Placed"
+
+pub letters :
+    (checkReply small-bolt ≡ reply 0 0 13)
+    × (sameReply bolt small-bolt ≡ verdict 0 0 1 0)
+    × (judgeReply small-bolt entry ≡ verdict 16 0 1 1)
+    × (judgeReply small-bolt (entryOf ".MECHANICAL" ".END_MECHANICAL") ≡ verdict 0 0 1 0)
+    × (checkReply (boardOf "BOARD_FILE 3.0 s 2024/05/06.07:08:09 1" ".BOARD_OUTLINE MCAD" "g p Board" "1 1 0 90 TOP PLACED") ≡ reply 9 11 0)
+unfolding judgeReply judging.withLibrary judging.matched judging.placed judging.placedFrom examined typeFrom entries.lacksEntry entries.hasEntry entries.entryIn refers sameNames sameTexts sameMeanings textIs sameReply sameLists sameRow sameFrom agreesAt sameField ignoredAt listIn readReply checkReply surveyed endedBy repeatIn usedIn rowsIn traceAt traceIn turnOf lineIn judged ofKind dataBy filledBy kindOf filled fillFrom entryAt lineEnd contentLen endLen lineAs begins allOf permitted fieldsOf fieldsIn fieldOf fieldAt bareAt closedAt quotedAt endsWell span keywordOf keyFrom folded sameBytes placeOf wordsOf sections sectionNames kindAt sectionOf lineOf roleOf layoutOf typesOf keyKind dataKind mayStand mayOpen after moved stepped shapeOf manyLoops loopAfter eqZ meaning isName named isIn barred kept within beyond readField readNumber body whole decimals toCount digitHere readInteger unsigned digits isDate fitsIn isTwo datePieces
+letters = (refl, refl, refl, refl, refl)
 
 -- the rows of a file, written over its bytes: enough room, too little; no rows
 pub written :
@@ -157,7 +180,7 @@ pub written :
     × (writeReply (rowsOf library) library 60 ≡ reply 14 0 61)
     × (writeReply [] library 60 ≡ reply 15 0 0)
     × (writeText (rowsOf other-words) other-words (replicate 61 46) ≡ library)
-unfolding writeReply writeText textOf lineText canonicalRecord canonicalLine canonicalFields canonicalField canonical.written joined needsQuotes isEmpty printed signOf magnitudeOf numeralOf decimalsOf wordAt isKind wholeRows chunks writable carries rowStep twice namedIn namesIt sameNames sameTexts sameMeanings rowFits fieldsFit allZero rangeFits liesIn integerFits wordFits fits goodText valuesIn rowsIn traceAt traceIn turnOf lineIn judged ofKind dataBy filledBy kindOf filled fillFrom entryAt lineEnd contentLen endLen lineAs begins allOf permitted fieldsOf fieldsIn fieldOf fieldAt bareAt closedAt quotedAt endsWell span keywordOf keyFrom folded sameBytes placeOf wordsOf sections sectionNames kindAt sectionOf lineOf roleOf layoutOf typesOf keyKind dataKind mayStand mayOpen after moved stepped shapeOf manyLoops loopAfter eqZ meaning barred kept within beyond readField readNumber body whole decimals toCount digitHere readInteger unsigned digits isDate fitsIn isTwo datePieces
+unfolding writeReply writeText textOf lineText canonicalRecord canonicalLine canonicalFields canonicalField canonical.written joined needsQuotes isEmpty printed signOf magnitudeOf numeralOf decimalsOf wordAt isKind wholeRows chunks writable carries rowStep twice namedIn namesIt sameNames sameTexts sameMeanings rowFits fieldsFit allZero rangeFits liesIn integerFits wordFits fits goodText valuesIn rowsIn traceAt traceIn turnOf lineIn judged ofKind dataBy filledBy kindOf filled fillFrom entryAt lineEnd contentLen endLen lineAs begins allOf permitted fieldsOf fieldsIn fieldOf fieldAt bareAt closedAt quotedAt endsWell span keywordOf keyFrom folded sameBytes placeOf wordsOf sections sectionNames kindAt sectionOf lineOf roleOf layoutOf typesOf keyKind dataKind mayStand mayOpen after moved stepped shapeOf manyLoops loopAfter eqZ meaning isName named isIn barred kept within beyond readField readNumber body whole decimals toCount digitHere readInteger unsigned digits isDate fitsIn isTwo datePieces
 written = (refl, refl, refl, refl)
 
 -- so they meet the premises

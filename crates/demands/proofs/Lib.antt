@@ -6,6 +6,7 @@ pub mod Starts
 pub mod Viewing
 pub mod Demands
 pub mod Endings
+pub mod Letters
 pub mod Numbers
 pub mod Examples
 pub mod PTable

@@ -13,12 +13,12 @@ use Rattle.text_fields.specs.Fields.{fieldsIn, fieldsOf}
 use Rattle.number.specs.Numbers.{digitHere, toCount, decimals, whole, body, readNumber}
 use Rattle.number.specs.Integers.{digits, unsigned, readInteger}
 use Rattle.law.specs.Dates.{datePieces, isTwo, fitsIn, isDate}
-use Rattle.law.specs.Words.{wordsOf, sameBytes, wordAt}
+use Rattle.law.specs.Words.{wordsOf, sameBytes, wordAt, named, isIn, folded}
 use Rattle.law.specs.Sections.{sectionNames, sections}
-use Rattle.form.specs.Compare.{folded, placeOf}
+use Rattle.form.specs.Compare.{placeOf}
 use Rattle.law.specs.Kinds.{kindAt, sectionOf, lineOf, roleOf}
 use Rattle.law.specs.Layouts.{layoutOf, typesOf}
-use Rattle.law.specs.Fits.{kept, within, barred, meaning, isEmpty, goodText, fits, fitsAll, wellFormed}
+use Rattle.law.specs.Fits.{kept, within, barred, meaning, isEmpty, goodText, fits, fitsAll, wellFormed, isName}
 use Rattle.form.specs.Fits.{beyond}
 use Rattle.form.specs.Reading.{readField, readEach, readFields, lineAs, keyFrom, keywordOf}
 use Rattle.law.specs.declared.Rules.the-variants.{Idf3}
@@ -132,7 +132,8 @@ with6 =
     by 6 [] (ascii ".HEADER x")
     ∷ by 6 board (ascii ".BOARD_OUTLINE")
     ∷ by 6 component (ascii "PROP a")
-    ∷ by 6 circle (ascii "prop a b")
+    ∷ by 6 circle (ascii "prop a b c")
+    ∷ by 6 circle (ascii "\"PROP\" a b")
     ∷ by 6 circle (ascii "0 5 5")
     ∷ []
 
@@ -157,11 +158,13 @@ with8 =
 -- 9, word, version, date, BOARD in a board; the first such field before a later one
 abbrev with9 : List Case
 with9 =
-    by 9 board (ascii ".BOARD_OUTLINE mcad")
+    by 9 board (ascii ".BOARD_OUTLINE \"mcad\"")
+    ∷ by 9 board (ascii ".BOARD_OUTLINE top")
     ∷ by 9 title (ascii "BOARD_FILE 2.0 s 2024/05/06.07:08:09 1")
     ∷ by 9 title (ascii "BOARD_FILE 3 s 10/22/96.16:20:19 1")
     ∷ by 9 title (ascii "FOO x s 2024/05/06.07:08:09 1")
     ∷ by 9 placements (ascii "a b \"BOARD\"")
+    ∷ by 9 placements (ascii "a b Board")
     ∷ []
 
 -- 10, a sign or an angle, before a later field that is no number
@@ -178,6 +181,7 @@ with11 =
     by 11 component (ascii "0 0 0 360")
     ∷ by 11 (outline ++ (ascii "1" ∷ [])) (ascii ".END_BOARD_OUTLINE")
     ∷ by 11 (component ++ (ascii "0 0 0 0" ∷ [])) (ascii "PROP a b")
+    ∷ by 11 (component ++ (ascii "0 0 0 0" ∷ [])) (ascii "prop a b")
     ∷ by 11 circle (ascii "0 5 5 0")
     ∷ by 11 (component ++ (ascii "0 0 0 0" ∷ [])) (ascii "0 0 -0.0 0")
     ∷ by 11 component (ascii "2 0 0 0")
@@ -191,7 +195,7 @@ with12 =
     ∷ []
 
 pub each-number : Faulty with3 × Faulty with4 × Faulty with5 × Faulty with6 × Faulty with7 × Faulty with8 × Faulty with9 × Faulty with10 × Faulty with11 × Faulty with12
-unfolding toldFrom lineSays saidAt lineAs begins allOf permitted fieldsOf fieldsIn fieldOf fieldAt bareAt quotedAt closedAt endsWell span keywordOf keyFrom folded sameBytes wordAt placeOf wordsOf sections sectionNames kindAt sectionOf lineOf roleOf layoutOf typesOf keyKind dataKind mayStand mayOpen shapeOf advance wellFormed fitsAll fits goodText isEmpty meaning kept within beyond barred readFields readEach readField readNumber body whole decimals toCount digitHere readInteger unsigned digits isDate fitsIn isTwo datePieces namesAComponent loopAfter eqZ manyLoops isMiddle after
+unfolding toldFrom lineSays saidAt lineAs begins allOf permitted fieldsOf fieldsIn fieldOf fieldAt bareAt quotedAt closedAt endsWell span keywordOf keyFrom folded sameBytes wordAt placeOf wordsOf sections sectionNames kindAt sectionOf lineOf roleOf layoutOf typesOf keyKind dataKind mayStand mayOpen shapeOf advance wellFormed fitsAll fits goodText isEmpty meaning isName named isIn kept within beyond barred readFields readEach readField readNumber body whole decimals toCount digitHere readInteger unsigned digits isDate fitsIn isTwo datePieces namesAComponent loopAfter eqZ manyLoops isMiddle after
 each-number = (
   refused-all with3 refl,
   refused-all with4 refl,

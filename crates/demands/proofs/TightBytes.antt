@@ -2,6 +2,10 @@
 use mathlib.Core.Path.{refl, sym, _∙_}
 use Rattle.basics.proofs.same_bytes.Kinds as basics-same-bytes
 use Rattle.basics.proofs.same_bytes.Reads as basics-same-bytes-says
+use Rattle.basics.proofs.same_letters.Kinds as basics-same-letters
+use Rattle.basics.proofs.same_letters.Reads as basics-same-letters-says
+use Rattle.basics.proofs.capital_of.Kinds as basics-capital-of
+use Rattle.basics.proofs.capital_of.Reads as basics-capital-of-says
 use Rattle.basics.proofs.same_integers.Kinds as basics-same-integers
 use Rattle.basics.proofs.same_integers.Reads as basics-same-integers-says
 use Rattle.text.proofs.class.Kinds as text-class
@@ -66,6 +70,12 @@ use Rattle.rows.proofs.component_kind.Kinds as rows-component-kind
 use Rattle.rows.proofs.component_kind.Reads as rows-component-kind-says
 use Rattle.rows.proofs.is_library.Kinds as rows-is-library
 use Rattle.rows.proofs.is_library.Reads as rows-is-library-says
+use Rattle.rows_names.proofs.is_named.Kinds as rows-names-is-named
+use Rattle.rows_names.proofs.is_named.Reads as rows-names-is-named-says
+use Rattle.rows_names.proofs.means.Kinds as rows-names-means
+use Rattle.rows_names.proofs.means.Reads as rows-names-means-says
+use Rattle.rows_names.proofs.same_meanings.Kinds as rows-names-same-meanings
+use Rattle.rows_names.proofs.same_meanings.Reads as rows-names-same-meanings-says
 use Rattle.rows_texts.proofs.text_is.Kinds as rows-texts-text-is
 use Rattle.rows_texts.proofs.text_is.Reads as rows-texts-text-is-says
 use Rattle.rows_texts.proofs.same_meanings.Kinds as rows-texts-same-meanings
@@ -120,6 +130,12 @@ use Rattle.demands.specs.Tight.{Tight}
 
 pub tight-basics-same-bytes : Tight 2 basics-same-bytes.ps basics-same-bytes.r basics-same-bytes-says.Learnt
 tight-basics-same-bytes κs a r q ws us e f = (e ∙ sym f, refl)
+
+pub tight-basics-same-letters : Tight 2 basics-same-letters.ps basics-same-letters.r basics-same-letters-says.Learnt
+tight-basics-same-letters κs a r q ws us e f = (e ∙ sym f, refl)
+
+pub tight-basics-capital-of : Tight 0 basics-capital-of.ps basics-capital-of.r basics-capital-of-says.Learnt
+tight-basics-capital-of κs a r q ws us e f = (e ∙ sym f, refl)
 
 pub tight-basics-same-integers : Tight 0 basics-same-integers.ps basics-same-integers.r basics-same-integers-says.Learnt
 tight-basics-same-integers κs a r q ws us e f = (e ∙ sym f, refl)
@@ -228,6 +244,17 @@ tight-rows-component-kind κs a r q ws us e f = (e ∙ sym f, refl)
 
 pub tight-rows-is-library : Tight 0 rows-is-library.ps rows-is-library.r rows-is-library-says.Learnt
 tight-rows-is-library κs a r q ws us e f = (e ∙ sym f, refl)
+
+-- `rows_names`
+
+pub tight-rows-names-is-named : Tight 1 rows-names-is-named.ps rows-names-is-named.r rows-names-is-named-says.Learnt
+tight-rows-names-is-named κs a r q ws us e f = (e ∙ sym f, refl)
+
+pub tight-rows-names-means : Tight 2 rows-names-means.ps rows-names-means.r rows-names-means-says.Learnt
+tight-rows-names-means κs a r q ws us e f = (e ∙ sym f, refl)
+
+pub tight-rows-names-same-meanings : Tight 2 rows-names-same-meanings.ps rows-names-same-meanings.r rows-names-same-meanings-says.Learnt
+tight-rows-names-same-meanings κs a r q ws us e f = (e ∙ sym f, refl)
 
 -- `rows_texts`
 

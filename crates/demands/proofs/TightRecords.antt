@@ -40,8 +40,8 @@ use Rattle.write_texts.proofs.needs_quotes.Kinds as write-texts-needs-quotes
 use Rattle.write_texts.proofs.needs_quotes.Reads as write-texts-needs-quotes-says
 use Rattle.write_texts.proofs.text_len.Kinds as write-texts-text-len
 use Rattle.write_texts.proofs.text_len.Reads as write-texts-text-len-says
-use Rattle.write_texts.proofs.put_text.Kinds as write-texts-put-text
-use Rattle.write_texts.proofs.put_text.Reads as write-texts-put-text-says
+use Rattle.write_texts.proofs.put_meaning.Kinds as write-texts-put-meaning
+use Rattle.write_texts.proofs.put_meaning.Reads as write-texts-put-meaning-says
 use Rattle.write_texts.proofs.padded_len.Kinds as write-texts-padded-len
 use Rattle.write_texts.proofs.padded_len.Reads as write-texts-padded-len-says
 use Rattle.write_texts.proofs.put_padded.Kinds as write-texts-put-padded
@@ -120,8 +120,8 @@ tight-write-texts-needs-quotes κs a r q ws us e f = (e ∙ sym f, refl)
 pub tight-write-texts-text-len : Tight 1 write-texts-text-len.ps write-texts-text-len.r write-texts-text-len-says.Learnt
 tight-write-texts-text-len κs a r q ws us e f = (e ∙ sym f, refl)
 
-pub tight-write-texts-put-text : Tight 2 write-texts-put-text.ps write-texts-put-text.r write-texts-put-text-says.Learnt
-tight-write-texts-put-text κs a r q ws us e f = (e .next ∙ sym (f .next), λ i. ((e .is ∙ sym (f .is)) i, ws .1))
+pub tight-write-texts-put-meaning : Tight 2 write-texts-put-meaning.ps write-texts-put-meaning.r write-texts-put-meaning-says.Learnt
+tight-write-texts-put-meaning κs a r q ws us e f = (e .next ∙ sym (f .next), λ i. ((e .is ∙ sym (f .is)) i, ws .1))
 
 pub tight-write-texts-padded-len : Tight 1 write-texts-padded-len.ps write-texts-padded-len.r write-texts-padded-len-says.Learnt
 tight-write-texts-padded-len κs a r q ws us e f = (e ∙ sym f, refl)

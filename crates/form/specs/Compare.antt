@@ -1,16 +1,9 @@
--- Letters folded, and words found in a list.
-use Prim.Native.Nat.{ℕ, zero, suc, _-_}
+-- Words found in a list.
+use Prim.Native.Nat.{ℕ, zero, suc}
 use mathlib.Core.List.{List, [], _∷_}
 use mathlib.Core.Option.{Option, none, some}
 use mathlib.Core.Bool.{cond}
-use Rattle.law.specs.Words.{isSmall, sameBytes}
-
-abbrev pub capital : ℕ → ℕ
-capital b = cond (isSmall b) (b - 32) b
-
-unfoldable pub folded : List ℕ → List ℕ
-folded [] = []
-folded (b ∷ s) = capital b ∷ folded s
+use Rattle.law.specs.Words.{sameBytes}
 
 abbrev pub up : Option ℕ → Option ℕ
 up none = none

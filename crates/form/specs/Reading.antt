@@ -17,9 +17,9 @@ use Rattle.number.specs.declared.WholeAnswer.{WholeAnswer}
 use Rattle.number.specs.declared.WholeAnswer.the-variants.{Whole, NotInteger}
 use Rattle.law.specs.Values.{Value, number, word, text}
 use Rattle.form.specs.Values.{Reply, good, refused}
-use Rattle.law.specs.Words.{wordsOf, propWord, endWord, sameBytes}
+use Rattle.law.specs.Words.{wordsOf, propWord, endWord, sameBytes, folded}
 use Rattle.law.specs.Sections.{sectionNames}
-use Rattle.form.specs.Compare.{placeOf, folded}
+use Rattle.form.specs.Compare.{placeOf}
 use Rattle.law.specs.Layouts.{Front, keyword, prop, plain}
 use Rattle.law.specs.Fits.{kept, largest, within, meaning, barred}
 use Rattle.form.specs.Fits.{beyond}
@@ -54,7 +54,7 @@ readField c I (field false s) = ofInteger (readInteger s)
 readField c (N l) (field true s) = refused 7
 readField c (N l) (field false s) = ofCount c l (readNumber (kept c l) (largest l) s)
 readField c (W l) (field true s) = refused 9
-readField c (W l) (field false s) = ofPlace (placeOf (wordsOf (c .rules) l) s)
+readField c (W l) (field false s) = ofPlace (placeOf (wordsOf (c .rules) l) (folded s))
 
 -- the fields of a record: 6 for their number, then each from the left
 
@@ -96,7 +96,7 @@ lineAs s = cond (begins 35 s) free (cond (allOf permitted s) (byFields (fieldsOf
 abbrev pub afterProp : List Field → Reply (List Field)
 afterProp [] = refused 5
 afterProp (field true s ∷ fs) = refused 5
-afterProp (field false s ∷ fs) = cond (sameBytes propWord s) (good fs) (refused 5)
+afterProp (field false s ∷ fs) = cond (sameBytes propWord (folded s)) (good fs) (refused 5)
 
 abbrev pub after : Front → Line → Reply (List Field)
 after f free = refused 5

@@ -15,16 +15,15 @@ use Rattle.basics.proofs.Tables.{allBelow, below-all}
 use Rattle.basics.proofs.Bools.{and-left}
 use Rattle.basics.proofs.Lists.{rest}
 use Rattle.law.specs.Bytes.{begins}
-use Rattle.law.specs.Words.{endWord, sameBytes, isSmall}
+use Rattle.law.specs.Words.{endWord, sameBytes, isSmall, capital, folded}
 use Rattle.law.specs.Sections.{sectionNames, sections}
-use Rattle.form.specs.Compare.{capital, folded}
 use Rattle.form.specs.Reading.{keyFrom, keyBy, keywordOf}
-use Rattle.form_words.specs.Padded.{keyed, trimmed, matched, keywordTable, sought, closingBy, closingOf}
+use Rattle.form_words.specs.Padded.{trimmed, matched, keywordTable, sought, closingBy, closingOf}
 use Rattle.form_words.specs.declared.WordAnswer.{WordAnswer}
 use Rattle.form_words.specs.declared.WordAnswer.the-variants.{At, Nowhere}
 use Rattle.form.specs.declared.Keyword.{Keyword}
 use Rattle.form.specs.declared.Keyword.the-variants.{Opening, Closing, Unknown}
-use Rattle.form_words.proofs.PaddedLaws.{key-folds, matched-is, matched-other}
+use Rattle.form_words.proofs.PaddedLaws.{matched-is, matched-other}
 
 -- every row has a fifth byte
 keywords-lettered : allBelow 30 (λ i. ltb 4 (length (trimmed (getD keywordTable i [])))) ≡ true
@@ -35,11 +34,11 @@ module _ (i b c : ℕ) (s : List ℕ) (k : i < 30) where
   long : 4 < length (trimmed (getD keywordTable i []))
   long = ltb-true 4 (length (trimmed (getD keywordTable i []))) (below-all 30 (λ j. ltb 4 (length (trimmed (getD keywordTable j [])))) keywords-lettered i k)
 
-  pub first-other : b ≡ keyed true (getD s 0 0) → c ≡ getD (getD keywordTable i []) 0 0 → (c ≡ b → ⊥) → false ≡ matched true (getD keywordTable i []) s
-  first-other e h n = sym (matched-other true (getD keywordTable i []) s 0 (omega (arith, long)) (λ q. n (h ∙ q ∙ sym e)))
+  pub first-other : b ≡ capital (getD s 0 0) → c ≡ getD (getD keywordTable i []) 0 0 → (c ≡ b → ⊥) → false ≡ matched (getD keywordTable i []) s
+  first-other e h n = sym (matched-other (getD keywordTable i []) s 0 (omega (arith, long)) (λ q. n (h ∙ q ∙ sym e)))
 
-  pub fifth-other : b ≡ keyed true (getD s 4 0) → c ≡ getD (getD keywordTable i []) 4 0 → (c ≡ b → ⊥) → false ≡ matched true (getD keywordTable i []) s
-  fifth-other e h n = sym (matched-other true (getD keywordTable i []) s 4 long (λ q. n (h ∙ q ∙ sym e)))
+  pub fifth-other : b ≡ capital (getD s 4 0) → c ≡ getD (getD keywordTable i []) 4 0 → (c ≡ b → ⊥) → false ≡ matched (getD keywordTable i []) s
+  fifth-other e h n = sym (matched-other (getD keywordTable i []) s 4 long (λ q. n (h ∙ q ∙ sym e)))
 
 -- the table holds the names, and END_ before each
 abbrev names : List (List ℕ)
@@ -69,12 +68,12 @@ Agree (some m) Nowhere = ⊥
 Agree (some m) (At n) = m ≡ n + 1
 
 -- behind a period a row is sought in capitals
-key-agrees : (n : ℕ) (rows : List (List ℕ)) (t : List ℕ) → Agree (keyFrom (46 ∷ []) (suc n) (map trimmed rows) (46 ∷ folded t)) (sought true n rows t)
+key-agrees : (n : ℕ) (rows : List (List ℕ)) (t : List ℕ) → Agree (keyFrom (46 ∷ []) (suc n) (map trimmed rows) (46 ∷ folded t)) (sought n rows t)
 unfolding keyFrom sought sameBytes
 key-agrees n [] t = tt
-key-agrees n (r ∷ rows) t = rw (matched-is true r t, key-folds t) (go (sameBytes (trimmed r) (folded t)) (key-agrees (suc n) rows t))
+key-agrees n (r ∷ rows) t = rw (matched-is r t) (go (sameBytes (trimmed r) (folded t)) (key-agrees (suc n) rows t))
   where
-    go : (x : Bool) → Agree (keyFrom (46 ∷ []) (suc (suc n)) (map trimmed rows) (46 ∷ folded t)) (sought true (suc n) rows t) → Agree (cond x (some (suc n)) (keyFrom (46 ∷ []) (suc (suc n)) (map trimmed rows) (46 ∷ folded t))) (cond x (At n) (sought true (suc n) rows t))
+    go : (x : Bool) → Agree (keyFrom (46 ∷ []) (suc (suc n)) (map trimmed rows) (46 ∷ folded t)) (sought (suc n) rows t) → Agree (cond x (some (suc n)) (keyFrom (46 ∷ []) (suc (suc n)) (map trimmed rows) (46 ∷ folded t))) (cond x (At n) (sought (suc n) rows t))
     go true e = sym (add-one n)
     go false e = e
 
@@ -93,18 +92,18 @@ by-names none (some m) (At n) g p q = absurd p
 by-names (some m) b Nowhere g p q = absurd p
 by-names (some m) b (At n) g p q = ap Opening p
 
-keyword-is : (t : List ℕ) → keywordOf (folded (46 ∷ t)) ≡ openingBy (sought true 0 names t) (sought true 0 closings t)
+keyword-is : (t : List ℕ) → keywordOf (folded (46 ∷ t)) ≡ openingBy (sought 0 names t) (sought 0 closings t)
 unfolding keywordOf folded
 keyword-is t =
-    by-names (keyFrom (46 ∷ []) 1 sectionNames (46 ∷ folded t)) (keyFrom (46 ∷ endWord) 1 sectionNames (46 ∷ folded t)) (sought true 0 names t) (sought true 0 closings t)
+    by-names (keyFrom (46 ∷ []) 1 sectionNames (46 ∷ folded t)) (keyFrom (46 ∷ endWord) 1 sectionNames (46 ∷ folded t)) (sought 0 names t) (sought 0 closings t)
     (rw names-are at (key-agrees 0 names t)) (rw (end-names 1 sectionNames (46 ∷ folded t)) (rw closings-are at (key-agrees 0 closings t)))
 
-opened : (s : List ℕ) (n : ℕ) → begins 46 s ≡ true → sought true 0 names (drop 1 s) ≡ At n → keywordOf (folded s) ≡ Opening (n + 1)
+opened : (s : List ℕ) (n : ℕ) → begins 46 s ≡ true → sought 0 names (drop 1 s) ≡ At n → keywordOf (folded s) ≡ Opening (n + 1)
 unfolding begins
 opened [] n h e = absurd (false≢true h)
 opened (b ∷ t) n h e = rw (eqb-true b 46 h) (keyword-is t ∙ rw e)
 
-closed : (s : List ℕ) → begins 46 s ≡ true → sought true 0 names (drop 1 s) ≡ Nowhere → keywordOf (folded s) ≡ closingOf (drop 1 s)
+closed : (s : List ℕ) → begins 46 s ≡ true → sought 0 names (drop 1 s) ≡ Nowhere → keywordOf (folded s) ≡ closingOf (drop 1 s)
 unfolding begins
 closed [] h e = absurd (false≢true h)
 closed (b ∷ t) h e = rw (eqb-true b 46 h) (keyword-is t ∙ rw e)
@@ -139,7 +138,7 @@ module _ (s : List ℕ) (r : Bool) (e : r ≡ begins 46 s) where
   pub key-none : not r ≡ true → Unknown ≡ keywordOf (folded s)
   key-none h = sym (no-period s (sym e ∙ not-true r h))
 
-  module _ (h : not r ≡ false) (f : WordAnswer) (m : f ≡ sought true 0 names (take (length s - 1) (drop 1 s))) where
+  module _ (h : not r ≡ false) (f : WordAnswer) (m : f ≡ sought 0 names (take (length s - 1) (drop 1 s))) where
     pub key-open : (n : ℕ) → f ≡ At n → Opening (n + 1) ≡ keywordOf (folded s)
     key-open n k = sym (opened s n (sym e ∙ not-false r h) (sym (rw rest at m) ∙ k))
 
@@ -147,7 +146,7 @@ module _ (s : List ℕ) (r : Bool) (e : r ≡ begins 46 s) where
     key-close k q c = (rw rest at c) ∙ sym (closed s (sym e ∙ not-false r h) (sym (rw rest at m) ∙ q))
 
 -- and where no section is opened
-module _ (s : List ℕ) (f : WordAnswer) (m : f ≡ sought true 0 closings s) where
+module _ (s : List ℕ) (f : WordAnswer) (m : f ≡ sought 0 closings s) where
   pub close-found : (n : ℕ) → f ≡ At n → Closing (n + 1) ≡ closingOf s
   close-found n k = sym (ap closingBy (sym m ∙ k))
 
@@ -158,18 +157,18 @@ module _ (s : List ℕ) (f : WordAnswer) (m : f ≡ sought true 0 closings s) wh
 no-at : {n : ℕ} → Nowhere ≡ At n → ⊥
 no-at {n} e = let z : _≡_ {A = ℕ} 0 1 = cc in omega arith
 
-sought-below : (fold : Bool) (k : ℕ) (rows : List (List ℕ)) (s : List ℕ) (n : ℕ) → sought fold k rows s ≡ At n → n < k + length rows
+sought-below : (k : ℕ) (rows : List (List ℕ)) (s : List ℕ) (n : ℕ) → sought k rows s ≡ At n → n < k + length rows
 unfolding sought
-sought-below fold k [] s n e = absurd (no-at e)
-sought-below fold k (r ∷ rows) s n e = go (matched fold r s) e (sought-below fold (suc k) rows s n)
+sought-below k [] s n e = absurd (no-at e)
+sought-below k (r ∷ rows) s n e = go (matched r s) e (sought-below (suc k) rows s n)
   where
-    go : (t : Bool) → cond t (At k) (sought fold (suc k) rows s) ≡ At n → (sought fold (suc k) rows s ≡ At n → n < suc k + length rows) → n < k + suc (length rows)
+    go : (t : Bool) → cond t (At k) (sought (suc k) rows s) ≡ At n → (sought (suc k) rows s ≡ At n → n < suc k + length rows) → n < k + suc (length rows)
     go true e ih = let z : k ≡ n = cc in omega arith
     go false e ih = let h = ih e in omega arith
 
 -- a section's number fits, and a period is a byte
-pub number-fits : (first : ℕ) (s : List ℕ) (f : WordAnswer) (n : ℕ) → f ≡ sought true 0 (take 15 (drop first keywordTable)) s → f ≡ At n → Fits w64 (n + 1)
-number-fits first s f n e h = omega (arith, sought-below true 0 (take 15 (drop first keywordTable)) s n (sym e ∙ h), length-take 15 (drop first keywordTable))
+pub number-fits : (first : ℕ) (s : List ℕ) (f : WordAnswer) (n : ℕ) → f ≡ sought 0 (take 15 (drop first keywordTable)) s → f ≡ At n → Fits w64 (n + 1)
+number-fits first s f n e h = omega (arith, sought-below 0 (take 15 (drop first keywordTable)) s n (sym e ∙ h), length-take 15 (drop first keywordTable))
 
 pub period-long : (s : List ℕ) (t : Bool) → t ≡ begins 46 s → not t ≡ false → 1 ≤ length s
 unfolding begins

@@ -6,7 +6,6 @@ use mathlib.Core.Bool.{Bool, true, false, cond, not, _&&_, _||_}
 use lib.Dec.{ltb, eqb}
 use lib.ListN.{getD, take, drop}
 use Rattle.law.specs.Bytes.{ascii}
-use Rattle.form.specs.Compare.{capital}
 use Rattle.form_words.specs.declared.WordAnswer.{WordAnswer}
 use Rattle.form_words.specs.declared.WordAnswer.the-variants.{At, Nowhere}
 use Rattle.form.specs.declared.Keyword.{Keyword}
@@ -16,23 +15,19 @@ use Rattle.law.specs.declared.Rules.{Rules}
 use Rattle.law.specs.declared.Rules.the-variants.{Idf3}
 use Rattle.law.specs.declared.Words.{Words}
 use Rattle.law.specs.declared.Words.the-variants.{FileTypes, Units, Owners, Faces, Sides, Layers, Plates, Statuses}
-
--- a byte as it is compared: in capitals, or as it stands
-abbrev pub keyed : Bool → ℕ → ℕ
-keyed true b = capital b
-keyed false b = b
+use Rattle.law.specs.Words.{capital}
 
 -- what stands before a row's padding
 unfoldable pub trimmed : List ℕ → List ℕ
 trimmed [] = []
 trimmed (b ∷ s) = cond (eqb b 32) [] (b ∷ trimmed s)
 
--- bytes, letters folded or not, that are those of a padded row
-unfoldable pub matched : Bool → List ℕ → List ℕ → Bool
-matched fold [] [] = true
-matched fold [] (b ∷ s) = false
-matched fold (r ∷ row) [] = eqb r 32
-matched fold (r ∷ row) (b ∷ s) = not (eqb r 32) && (eqb r (keyed fold b) && matched fold row s)
+-- bytes that are in capitals those of a padded row
+unfoldable pub matched : List ℕ → List ℕ → Bool
+matched [] [] = true
+matched [] (b ∷ s) = false
+matched (r ∷ row) [] = eqb r 32
+matched (r ∷ row) (b ∷ s) = not (eqb r 32) && (eqb r (capital b) && matched row s)
 
 abbrev pub found : Option ℕ → WordAnswer
 found none = Nowhere
@@ -103,9 +98,9 @@ wordTable =
     ∷ []
 
 -- the number from n on of the first row that matches
-unfoldable pub sought : Bool → ℕ → List (List ℕ) → List ℕ → WordAnswer
-sought fold n [] s = Nowhere
-sought fold n (r ∷ rows) s = cond (matched fold r s) (At n) (sought fold (suc n) rows s)
+unfoldable pub sought : ℕ → List (List ℕ) → List ℕ → WordAnswer
+sought n [] s = Nowhere
+sought n (r ∷ rows) s = cond (matched r s) (At n) (sought (suc n) rows s)
 
 -- where a list of words stands in the table
 abbrev pub spanOf : Rules → Words → Span
@@ -145,4 +140,4 @@ closingBy Nowhere = Unknown
 
 -- what a keyword without its period does where it does not open a section
 abbrev pub closingOf : List ℕ → Keyword
-closingOf s = closingBy (sought true 0 (take 15 (drop 15 keywordTable)) s)
+closingOf s = closingBy (sought 0 (take 15 (drop 15 keywordTable)) s)

@@ -6,14 +6,13 @@ use form::Keyword;
 use law::Rules;
 use law::Words;
 ghost use mathlib.Core.Path.{_≡_};
-ghost use mathlib.Core.Bool.{true, false};
 ghost use mathlib.Core.List.{[]};
 ghost use Prim.Native.Nat.{_+_, _≤_, _<_};
 ghost use lib.ListN.{getD, take, drop};
-ghost use Rattle.form.specs.Compare.{capital, folded, placeOf};
-ghost use Rattle.law.specs.Words.{sameBytes, propWord, wordsOf};
+ghost use Rattle.form.specs.Compare.{placeOf};
+ghost use Rattle.law.specs.Words.{capital, folded, sameBytes, propWord, wordsOf};
 ghost use Rattle.form.specs.Reading.{keywordOf};
-ghost use Rattle.form_words.specs.Padded.{keyed, matched, keywordTable, wordTable, sought, found, spanOf, wordRow, keywordRow, nameRow, closingRow, closingOf};
+ghost use Rattle.form_words.specs.Padded.{matched, keywordTable, wordTable, sought, found, spanOf, wordRow, keywordRow, nameRow, closingRow, closingOf};
 
 // The place of a word in its list, from 0.
 pub enum WordAnswer {
@@ -27,30 +26,16 @@ pub struct Span {
     pub count: usize,
 }
 
-// A letter in capitals.
-fn capital_of(b: u8) -> u8
-    ensures { λ r. ⌜ r ≡ capital b ⌝ }
-{
-    if (97 <= b) & (b <= 122) { b - 32 } else { b }
-}
-
-// A byte as it is compared: in capitals, or as it stands.
-fn letter(b: u8, fold: bool) -> u8
-    ensures { λ r. ⌜ r ≡ keyed fold b ⌝ }
-{
-    if fold { capital_of(b) } else { b }
-}
-
-// Whether bytes, letters folded or not, are those of a padded row.
-fn matches(row: &[u8], s: &[u8], fold: bool) -> bool
-    ensures { λ r. ⌜ r ≡ matched fold (now (row .entry)) (now (s .entry)) ⌝ }
+// Whether bytes are, in any letter case, those of a padded row.
+fn matches(row: &[u8], s: &[u8]) -> bool
+    ensures { λ r. ⌜ r ≡ matched (now (row .entry)) (now (s .entry)) ⌝ }
 {
     if row.len() < s.len() {
         return false;
     }
     let mut i = 0;
     while i < s.len() {
-        let b = letter(s[i], fold);
+        let b = basics::capital_of(s[i]);
         if (row[i] == 32) | (row[i] != b) {
             return false;
         }
@@ -62,34 +47,34 @@ fn matches(row: &[u8], s: &[u8], fold: bool) -> bool
     row[i] == 32
 }
 
-// A byte as it is compared, 0 where there is none.
-fn byte_at(s: &[u8], at: usize, fold: bool) -> u8
-    ensures { λ r. ⌜ r ≡ keyed fold (getD (now (s .entry)) at 0) ⌝ }
+// A byte in capitals, 0 where there is none.
+fn byte_at(s: &[u8], at: usize) -> u8
+    ensures { λ r. ⌜ r ≡ capital (getD (now (s .entry)) at 0) ⌝ }
 {
     if s.len() <= at {
         return 0;
     }
-    letter(s[at], fold)
+    basics::capital_of(s[at])
 }
 
-// Whether bytes are those of a row of words; b is the first of them, which tells most rows apart.
+// Whether bytes are, in any letter case, those of a row of words; b is the first of them, which tells most rows apart.
 fn is_word(i: usize, b: u8, s: &[u8]) -> bool
-    requires { ⌜ (i < 24) × (b ≡ keyed false (getD (now s) 0 0)) ⌝ }
-    ensures { λ r. ⌜ r ≡ matched false (getD wordTable i []) (now (s .entry)) ⌝ }
+    requires { ⌜ (i < 24) × (b ≡ capital (getD (now s) 0 0)) ⌝ }
+    ensures { λ r. ⌜ r ≡ matched (getD wordTable i []) (now (s .entry)) ⌝ }
 {
     if words::initial_at(i) != b {
         return false;
     }
     let row = words::row_at(i);
-    matches(&row, s, false)
+    matches(&row, s)
 }
 
-// The place from 0 of the bytes among some rows of words.
+// The place from 0 of the bytes, in any letter case, among some rows of words.
 fn seek_word(first: usize, count: usize, s: &[u8]) -> WordAnswer
     requires { ⌜ first + count ≤ 24 ⌝ }
-    ensures { λ r. ⌜ r ≡ sought false 0 (take count (drop first wordTable)) (now (s .entry)) ⌝ }
+    ensures { λ r. ⌜ r ≡ sought 0 (take count (drop first wordTable)) (now (s .entry)) ⌝ }
 {
-    let b = byte_at(s, 0, false);
+    let b = byte_at(s, 0);
     let mut i = 0;
     while i < count {
         if is_word(first + i, b, s) {
@@ -130,9 +115,9 @@ fn rows_of(v: Rules, l: Words) -> Span
     }
 }
 
-// The place of a bare word in its list.
+// The place of a bare word, in any letter case, in its list.
 pub fn place_of(v: Rules, l: Words, s: &[u8]) -> WordAnswer
-    ensures { λ r. ⌜ r ≡ found (placeOf (wordsOf v l) (now (s .entry))) ⌝ }
+    ensures { λ r. ⌜ r ≡ found (placeOf (wordsOf v l) (folded (now (s .entry)))) ⌝ }
 {
     let rows = rows_of(v, l);
     let first = rows.first;
@@ -153,17 +138,17 @@ pub fn word_row(v: Rules, l: Words, n: u64) -> [u8; 16]
     *b"                "
 }
 
-// Whether a bare field is the word before a property's name.
+// Whether a bare field is, in any letter case, the word before a property's name.
 pub fn is_prop(s: &[u8]) -> bool
-    ensures { λ r. ⌜ r ≡ sameBytes propWord (now (s .entry)) ⌝ }
+    ensures { λ r. ⌜ r ≡ sameBytes propWord (folded (now (s .entry))) ⌝ }
 {
-    matches(b"PROP", s, false)
+    basics::same_letters(b"PROP", false, s, true)
 }
 
 // Whether bytes, in any letter case, are those of a row of keywords; a and b are the first and the fifth, which tell most rows apart.
 fn is_keyword(i: usize, a: u8, b: u8, s: &[u8]) -> bool
-    requires { ⌜ (i < 30) × (a ≡ keyed true (getD (now s) 0 0)) × (b ≡ keyed true (getD (now s) 4 0)) ⌝ }
-    ensures { λ r. ⌜ r ≡ matched true (getD keywordTable i []) (now (s .entry)) ⌝ }
+    requires { ⌜ (i < 30) × (a ≡ capital (getD (now s) 0 0)) × (b ≡ capital (getD (now s) 4 0)) ⌝ }
+    ensures { λ r. ⌜ r ≡ matched (getD keywordTable i []) (now (s .entry)) ⌝ }
 {
     if keywords::initial_at(i) != a {
         return false;
@@ -172,16 +157,16 @@ fn is_keyword(i: usize, a: u8, b: u8, s: &[u8]) -> bool
         return false;
     }
     let row = keywords::row_at(i);
-    matches(&row, s, true)
+    matches(&row, s)
 }
 
 // The place from 0 of the bytes, in any letter case, among fifteen rows of keywords.
 fn seek_keyword(first: usize, s: &[u8]) -> WordAnswer
     requires { ⌜ first + 15 ≤ 30 ⌝ }
-    ensures { λ r. ⌜ r ≡ sought true 0 (take 15 (drop first keywordTable)) (now (s .entry)) ⌝ }
+    ensures { λ r. ⌜ r ≡ sought 0 (take 15 (drop first keywordTable)) (now (s .entry)) ⌝ }
 {
-    let a = byte_at(s, 0, true);
-    let b = byte_at(s, 4, true);
+    let a = byte_at(s, 0);
+    let b = byte_at(s, 4);
     let mut i = 0;
     while i < 15 {
         if is_keyword(first + i, a, b, s) {

@@ -9,12 +9,12 @@ use lib.ListN.{length, replicate}
 use Rattle.law.specs.Bytes.{permitted, allOf, begins, ascii}
 use Rattle.law.specs.Fields.{field}
 use Rattle.law.specs.Dates.{datePieces, isTwo, fitsIn, isDate}
-use Rattle.law.specs.Words.{wordsOf, sameBytes, wordAt}
+use Rattle.law.specs.Words.{wordsOf, sameBytes, wordAt, named, isIn, folded}
 use Rattle.law.specs.Sections.{SectionForm, sections, sectionNames}
 use Rattle.law.specs.Kinds.{sectionOf, lineOf, roleOf}
 use Rattle.law.specs.Layouts.{layoutOf, typesOf}
-use Rattle.law.specs.Values.{number, word, Rec}
-use Rattle.law.specs.Fits.{under, within, meaning, barred, goodText, isEmpty, fits, fitsAll, wellFormed}
+use Rattle.law.specs.Values.{number, word, Rec, text}
+use Rattle.law.specs.Fits.{under, within, meaning, barred, goodText, isEmpty, fits, fitsAll, wellFormed, isName}
 use Rattle.law.specs.RecordSpelling.{isData}
 use Rattle.law.specs.Records.{isMiddle}
 use Rattle.law.specs.Files.{titled}
@@ -26,6 +26,8 @@ use Rattle.law.specs.declared.Rules.the-variants.{Idf3}
 use Rattle.law.specs.declared.FileType.the-variants.{Board, Panel}
 use Rattle.law.specs.declared.Words.the-variants.{FileTypes, Units, Owners, Faces, Sides, Layers, Plates, Statuses}
 use Rattle.law.proofs.Samples.{of, said, count, title, part, electrical, library}
+use Rattle.law.specs.declared.Texts.the-variants.{Plain, Reference, Hole}
+use Rattle.law.specs.declared.FieldType.the-variants.{Text as T}
 
 -- bytes
 pub bytes :
@@ -65,6 +67,28 @@ pub words :
     × (wordAt (wordsOf Idf3 Statuses) 3 ≡ ascii "ECAD")
 unfolding wordsOf wordAt
 words = (refl, refl, refl, refl, refl, refl, refl, refl, refl, refl)
+
+-- names mean their capitals where a text may be one, and all else its bytes
+pub names :
+    (meaning (T Reference) (ascii "nOrefdes") ≡ ascii "NOREFDES")
+    × (meaning (T Reference) (ascii "Board") ≡ ascii "BOARD")
+    × (meaning (T Reference) (ascii "panel") ≡ ascii "panel")
+    × (meaning (T Reference) (ascii "boards") ≡ ascii "boards")
+    × (meaning (T Hole) (ascii "norefdes") ≡ ascii "NOREFDES")
+    × (meaning (T Hole) (ascii "board") ≡ ascii "BOARD")
+    × (meaning (T Hole) (ascii "paneL") ≡ ascii "PANEL")
+    × (meaning (T Plain) (ascii "norefdes") ≡ ascii "norefdes")
+unfolding meaning isName named isIn folded sameBytes
+names = (refl, refl, refl, refl, refl, refl, refl, refl)
+
+-- BOARD is a reference in a panel, and not in a board; in small letters no record holds it
+pub references :
+    (fits (under Idf3 Panel) (T Reference) (text (ascii "BOARD")) ≡ true)
+    × (fits (under Idf3 Board) (T Reference) (text (ascii "BOARD")) ≡ false)
+    × (fits (under Idf3 Panel) (T Reference) (text (ascii "board")) ≡ false)
+    × (fits (under Idf3 Board) (T Reference) (text (ascii "panel")) ≡ true)
+unfolding fits barred goodText allOf permitted meaning isName named isIn folded sameBytes
+references = (refl, refl, refl, refl)
 
 -- a section's number is its place in the table
 abbrev numbersIn : List SectionForm → List ℕ
@@ -116,7 +140,7 @@ pub limits :
     × bad (of 11 (word 0 ∷ count 200_000 ∷ said "s" ∷ said "2024/05/06.07:08:09" ∷ count 1 ∷ []))
     × bad (part "g" "p" "BOARD")
     × (wellFormed (under Idf3 Panel) (part "g" "p" "BOARD") ≡ true)
-unfolding wellFormed fitsAll fits within goodText meaning barred allOf permitted sameBytes isEmpty wordAt wordsOf isDate fitsIn isTwo datePieces layoutOf sectionOf lineOf roleOf sections sectionNames
+unfolding wellFormed fitsAll fits within goodText meaning isName named isIn folded barred allOf permitted sameBytes isEmpty wordAt wordsOf isDate fitsIn isTwo datePieces layoutOf sectionOf lineOf roleOf sections sectionNames
 limits = (refl, refl, refl, refl, refl, refl, refl, refl, refl, refl, refl, refl, refl, refl, refl, refl, refl, refl, refl, refl, refl)
 
 -- between outline and PLACEMENT

@@ -14,19 +14,23 @@ use Rattle.law.specs.Given.{Fails}
 use Rattle.law.specs.Bytes as by
 use Rattle.law.specs.Bytes.{permitted, allOf, ascii}
 use Rattle.law.specs.Lines as lines
-use Rattle.law.specs.Fields.{field}
+use Rattle.law.specs.Fields.{Field, field, Spells, bare, Spelled, space, last as last-field, next as next-field}
 use Rattle.law.specs.Limits.{largestLength, wholeTurn}
 use Rattle.law.specs.Numbers.{Digit, one, last, next, withPoint, SpellsNumber, plain, minus}
 use Rattle.law.specs.Dates.{datePieces, isTwo, fitsIn, isDate}
-use Rattle.law.specs.Words.{wordsOf, sameBytes, wordAt}
+use Rattle.law.specs.Words.{wordsOf, sameBytes, wordAt, named, isIn, folded}
 use Rattle.law.specs.Sections.{sections, sectionNames}
 use Rattle.law.specs.Kinds.{sectionOf, lineOf, Role, point, roleOf}
-use Rattle.law.specs.Layouts.{layoutOf, typesOf}
+use Rattle.law.specs.Layouts.{plain as data-line, layoutOf, typesOf}
 use Rattle.law.specs.Values.{Value, number, word, Rec}
 use Rattle.law.specs.Records.{Place, placeOf, angleOf, isLibrary, shapeOf, manyLoops, Named, namesAComponent}
-use Rattle.law.specs.Fits.{under, within, meaning, barred, goodText, isEmpty, fits, fitsAll, wellFormed}
+use Rattle.law.specs.Fits.{under, within, meaning, barred, goodText, isEmpty, fits, fitsAll, wellFormed, isName}
 use Rattle.law.specs.WordSpelling.{Listed, here, there, AnyCase, end, same, small}
-use Rattle.law.specs.RecordSpelling.{SpellsField, asWord}
+use Rattle.law.specs.RecordSpelling.{SpellsField, asWord, isData}
+use Rattle.law.specs.LineFaults.{asData}
+use Rattle.law.specs.Letters as letters
+use Rattle.law.specs.Letters.{OtherLine}
+use Rattle.law.specs.declared.Texts.the-variants.{Plain, Reference}
 use Rattle.law.specs.LineSpelling as spelled
 use Rattle.law.specs.LineSpelling.{SpellsLines, inside}
 use Rattle.law.specs.Lists.{Line, PointLine, Step, last as back, Loop, circle, path, Loops, final, another, numbered, no-line, no-pair, pair, led, placed, section, no-section, Section, Header, header-of, Middle, Permitted, a-board, in-none, nor, nothing-named, and-new, Distinct}
@@ -41,7 +45,7 @@ use Rattle.law.specs.declared.FileType.the-variants.{Board, Library}
 use Rattle.law.specs.declared.Context.{Context}
 use Rattle.law.specs.declared.Words.{Words}
 use Rattle.law.specs.declared.Words.the-variants.{Units}
-use Rattle.law.specs.declared.FieldType.the-variants.{Word}
+use Rattle.law.specs.declared.FieldType.the-variants.{Text, Word}
 use Rattle.law.proofs.Samples.{of, said, count, pointAt, title, heading, circled, placing, board, part, position, electrical, mechanical, library}
 
 -- lines: byte 10 ends each, or 13 and 10, and the last may lack its end
@@ -100,16 +104,39 @@ sixth-is-zero =
     (next zero-digit (λ e. refl) (next zero-digit (λ e. refl) (next zero-digit (λ e. refl) (next one-digit (λ e. e) (last zero-digit (λ e. refl))))))))
     (omega arith)
 
--- words: exactly as printed, and bare; names of sections in any letter case
-pub second-unit : Listed (wordsOf Idf3 Units) 1 (ascii "THOU")
-unfolding wordsOf sameBytes
-second-unit = there (here refl)
+-- words: in any letter case, and bare; names of sections so too
+pub second-unit : Listed (wordsOf Idf3 Units) 1 (ascii "tHoU")
+unfolding wordsOf
+second-unit = there (here (small refl (same refl (small refl (same refl end)))))
 
 pub no-quoted-word : {c : Context} {l : Words} {v : Value} {q : Bool} {s : List ℕ} → SpellsField c (Word l) v (field q s) → q ≡ false
 no-quoted-word (asWord x) = refl
 
 pub any-case : AnyCase (ascii "VIA_") (ascii "vIa_")
 any-case = small refl (same refl (small refl (same refl end)))
+
+-- letters: a reference in another letter case is the same where it is a name
+abbrev referring : List ℕ → List Field
+referring r = field false (ascii "a") ∷ field false (ascii "b") ∷ field false r ∷ []
+
+spelled-so : (r : List ℕ) → Spells (field false r) r → Spelled (referring r) (ascii "a b " ++ r)
+spelled-so r s = next-field (bare (by.one refl by.none)) (space (next-field (bare (by.one refl by.none)) (space (last-field s))))
+
+pub other-reference : OtherLine (record { front = data-line; types = Text Plain ∷ Text Plain ∷ Text Reference ∷ [] }) (ascii "a b BOARD") (ascii "a b Board")
+unfolding folded isName named isIn sameBytes isData by.begins
+other-reference =
+    record {
+      letters = refl;
+      fields = referring (ascii "BOARD");
+      others = referring (ascii "Board");
+      spelled = spelled-so (ascii "BOARD") (bare (by.one refl (by.one refl (by.one refl (by.one refl (by.one refl by.none))))));
+      respelled = spelled-so (ascii "Board") (bare (by.one refl (by.one refl (by.one refl (by.one refl (by.one refl by.none))))));
+      own = referring (ascii "BOARD");
+      its = referring (ascii "Board");
+      fronted = asData refl;
+      refronted = asData refl;
+      each = letters.more letters.as-it-is (letters.more letters.as-it-is (letters.more (letters.a-name refl refl) letters.none));
+    }
 
 -- free lines stand for nothing inside a section
 pub none-inside : {c : Context} {rs : List Rec} {l : List ℕ} {ls : List (List ℕ)} → SpellsLines c inside rs (l ∷ ls) → rs ≢ []
@@ -134,11 +161,11 @@ turned : {a b : ℤ} → natAbs a ≢ natAbs b → a ≢ b
 turned h e = h (ap natAbs e)
 
 pub a-circle : Loop Idf3 Board 2 (pos 0) (pointAt 22 0 0 0 ∷ pointAt 22 100_000 0 36_000_000 ∷ [])
-unfolding wellFormed fitsAll fits within goodText meaning barred allOf permitted sameBytes isEmpty wordAt wordsOf isDate fitsIn isTwo datePieces layoutOf sectionOf lineOf roleOf sections sectionNames
+unfolding wellFormed fitsAll fits within goodText meaning isName named isIn folded barred allOf permitted sameBytes isEmpty wordAt wordsOf isDate fitsIn isTwo datePieces layoutOf sectionOf lineOf roleOf sections sectionNames
 a-circle = circle (at-point 22 0 0 refl refl refl) refl (at-point 22 100_000 36_000_000 refl refl refl) (apart (λ e. absurd (omega (arith, e)))) refl
 
 pub there-and-back : Loop Idf3 Board 2 (pos 0) (pointAt 22 0 0 0 ∷ pointAt 22 100_000 0 0 ∷ pointAt 22 0 0 0 ∷ [])
-unfolding wellFormed fitsAll fits within goodText meaning barred allOf permitted sameBytes isEmpty wordAt wordsOf isDate fitsIn isTwo datePieces layoutOf sectionOf lineOf roleOf sections sectionNames
+unfolding wellFormed fitsAll fits within goodText meaning isName named isIn folded barred allOf permitted sameBytes isEmpty wordAt wordsOf isDate fitsIn isTwo datePieces layoutOf sectionOf lineOf roleOf sections sectionNames
 there-and-back =
     path
     (at-point 22 0 0 refl refl refl)
@@ -155,15 +182,15 @@ two-loops a b = another a (final b)
 -- order: a board is header, outline, what may stand between, PLACEMENT
 
 a-heading : Header Idf3 Board heading
-unfolding wellFormed fitsAll fits within goodText meaning barred allOf permitted sameBytes isEmpty wordAt wordsOf isDate fitsIn isTwo datePieces layoutOf sectionOf lineOf roleOf sections sectionNames
+unfolding wellFormed fitsAll fits within goodText meaning isName named isIn folded barred allOf permitted sameBytes isEmpty wordAt wordsOf isDate fitsIn isTwo datePieces layoutOf sectionOf lineOf roleOf sections sectionNames
 a-heading = header-of refl (good refl refl refl) (good refl refl refl) refl (good refl refl refl) (good refl refl refl)
 
 an-outline : Section Idf3 Board 2 circled
-unfolding wellFormed fitsAll fits within goodText meaning barred allOf permitted sameBytes isEmpty wordAt wordsOf isDate fitsIn isTwo datePieces layoutOf sectionOf lineOf roleOf sections sectionNames shapeOf manyLoops
+unfolding wellFormed fitsAll fits within goodText meaning isName named isIn folded barred allOf permitted sameBytes isEmpty wordAt wordsOf isDate fitsIn isTwo datePieces layoutOf sectionOf lineOf roleOf sections sectionNames shapeOf manyLoops
 an-outline = section (good refl refl refl) (led {qs = []} refl (good refl refl refl) (numbered refl (final a-circle)) no-line) (good refl refl refl)
 
 pub a-placement : Section Idf3 Board 13 (placing (part "g" "p" "R1" ∷ position ∷ []))
-unfolding wellFormed fitsAll fits within goodText meaning barred allOf permitted sameBytes isEmpty wordAt wordsOf isDate fitsIn isTwo datePieces layoutOf sectionOf lineOf roleOf sections sectionNames shapeOf
+unfolding wellFormed fitsAll fits within goodText meaning isName named isIn folded barred allOf permitted sameBytes isEmpty wordAt wordsOf isDate fitsIn isTwo datePieces layoutOf sectionOf lineOf roleOf sections sectionNames shapeOf
 a-placement = section (good refl refl refl) (placed refl (pair (good refl refl refl) (good refl refl refl) no-pair)) (good refl refl refl)
 
 nothing-between : Middle Idf3 []
@@ -199,7 +226,7 @@ abbrev title-row : List ℤ
 title-row = pos 11 ∷ pos 2 ∷ pos 300_000 ∷ pos 25 ∷ pos 1 ∷ pos 27 ∷ pos 19 ∷ pos 1 ∷ pos 0 ∷ pos 0 ∷ []
 
 pub title-held : Holds three-lines 11 (typesOf Idf3 11) title-row (word 2 ∷ count 300_000 ∷ said "s" ∷ said "2024/05/06.07:08:09" ∷ count 1 ∷ [])
-unfolding typesOf layoutOf sectionOf lineOf roleOf sections meaning
+unfolding typesOf layoutOf sectionOf lineOf roleOf sections meaning isName named isIn folded sameBytes
 title-held =
     record {
       columns = pos 2 ∷ pos 300_000 ∷ pos 25 ∷ pos 1 ∷ pos 27 ∷ pos 19 ∷ pos 1 ∷ [];

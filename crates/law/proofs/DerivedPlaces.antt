@@ -11,12 +11,12 @@ use Rattle.law.specs.Bytes.{permitted, begins, inBare, ascii, All}
 use Rattle.law.specs.Lines as lines
 use Rattle.law.specs.Fields as rules
 use Rattle.law.specs.Fields.{Field, field, Spells, bare, quoted, Spelled}
-use Rattle.law.specs.Words.{sameBytes}
+use Rattle.law.specs.Words.{sameBytes, named, isIn, folded}
 use Rattle.law.specs.Sections.{sections}
 use Rattle.law.specs.Kinds.{sectionOf, lineOf, roleOf}
 use Rattle.law.specs.Layouts.{layoutOf}
 use Rattle.law.specs.Values.{text, Rec}
-use Rattle.law.specs.Fits.{under, meaning, barred}
+use Rattle.law.specs.Fits.{under, meaning, barred, isName}
 use Rattle.law.specs.RecordSpelling as spelled
 use Rattle.law.specs.RecordSpelling.{SpellsRecord, asText, withProp, asLine}
 use Rattle.law.specs.Answers.{reply}
@@ -27,6 +27,7 @@ use Rattle.law.specs.FieldPlaces.{SpelledAt, end, space, last, next, num
 use Rattle.law.specs.RowPlaces as rows
 use Rattle.law.specs.RowPlaces.{columnsOfAll, RowOf, RowsAt}
 use Rattle.law.specs.Viewing.{comment, fields, Shown, no-line, not-permitted, no-fields, too-short, whole, after-0, after-3, after-4, MovesOn, Called, opened, moved, stayed}
+use Rattle.law.specs.WordSpelling.{end, same}
 
 -- a bare field, and one that is quoted, in a line that begins at 8
 pub quoted-place : SpelledAt 8 (record { at = 8; what = field false (ascii "a") } ∷ record { at = 11; what = field true (ascii "b c") } ∷ []) (97 ∷ 32 ∷ 34 ∷ 98 ∷ 32 ∷ 99 ∷ 34 ∷ [])
@@ -50,10 +51,10 @@ four : Spells (field false (ascii "PROP")) (ascii "PROP")
 four = bare (by.one refl (by.one refl (by.one refl (by.one refl by.none))))
 
 spells-property : SpellsRecord (under Idf3 Library) its property
-unfolding layoutOf sectionOf lineOf roleOf sections sameBytes meaning barred permitted
+unfolding layoutOf sectionOf lineOf roleOf sections sameBytes meaning isName named isIn folded barred permitted
 spells-property =
     asLine refl
-    (withProp {p = ascii "PROP"} refl
+    (withProp {p = ascii "PROP"} (same refl (same refl (same refl (same refl end))))
     (spelled.more (asText {k = Plain} {s = ascii "A"} refl) (spelled.more (asText {k = Plain} {s = ascii "A"} refl) spelled.none))
     (rules.next four (rules.space (rules.next (one-byte 65 refl) (rules.space (rules.last (one-byte 65 refl))))))
     (by.one refl (by.one refl (by.one refl (by.one refl (by.one refl (by.one refl (by.one refl (by.one refl by.none)))))))))

@@ -4,14 +4,14 @@ use Prim.Native.Nat.{ℕ}
 use mathlib.Core.Path.{_≡_}
 use mathlib.Core.List.{List, [], _∷_}
 use mathlib.Core.Option.{Option, none, some}
-use mathlib.Core.Bool.{Bool, true, false, not, _&&_}
+use mathlib.Core.Bool.{Bool, true, false, cond, not, _&&_}
 use lib.Dec.{leb, ltb, eqb}
 use lib.IntN.{ℤ, pos, negsuc, natAbs}
 use Rattle.law.specs.Bytes.{permitted, allOf}
 use Rattle.law.specs.Limits.{mostDecimals, largestLength, largestAngle, largestInteger, inTurn, below}
 use Rattle.law.specs.Dates.{isDate}
 use Rattle.law.specs.Values.{Value, number, word, text, Rec}
-use Rattle.law.specs.Words.{wordsOf, boardWord, sameBytes, wordAt}
+use Rattle.law.specs.Words.{wordsOf, boardWord, named, sameBytes, isIn, folded, wordAt}
 use Rattle.law.specs.Layouts.{Layout, layoutOf}
 use Rattle.law.specs.declared.Rules.{Rules}
 use Rattle.law.specs.declared.Rules.the-variants.{Idf3}
@@ -67,9 +67,17 @@ within c Ver z = isVersion (c .rules) z
 
 -- texts
 
--- what the bytes of a text mean at its field: themselves; W-203 will have names in capitals
+-- bytes that are, in some letter case, what a text may name at its field
+unfoldable pub isName : FieldType → List ℕ → Bool
+isName (T k) s = isIn (folded s) (named k)
+isName D s = false
+isName I s = false
+isName (N l) s = false
+isName (W l) s = false
+
+-- what the bytes of a text mean at its field: a name its capitals, any other text itself
 unfoldable pub meaning : FieldType → List ℕ → List ℕ
-meaning t s = s
+meaning t s = cond (isName t s) (folded s) s
 
 abbrev pub isBoard : FileType → Bool
 isBoard Board = true
@@ -79,7 +87,7 @@ isBoard Library = false
 -- BOARD as a reference, in a board
 unfoldable pub barred : Context → Texts → List ℕ → Bool
 barred c Plain s = false
-barred c Reference s = isBoard (c .file) && sameBytes boardWord s
+barred c Reference s = isBoard (c .file) && sameBytes s boardWord
 barred c Hole s = false
 
 -- bytes of a text: 32 to 126 and 128 to 255, no quote

@@ -22,6 +22,7 @@ pub mod Lists
 pub mod Files
 pub mod FieldFaults
 pub mod LineFaults
+pub mod Letters
 pub mod Rows
 pub mod RowPlaces
 pub mod Printing

@@ -11,7 +11,7 @@ use Rattle.law.specs.Bytes.{permitted, All}
 use Rattle.law.specs.Fields.{Field, field, Spelled}
 use Rattle.law.specs.Lines.{Free}
 use Rattle.law.specs.Values.{Rec}
-use Rattle.law.specs.Words.{propWord, sameBytes}
+use Rattle.law.specs.Words.{propWord}
 use Rattle.law.specs.Kinds.{Role, opening, closing, title, name, lead, point, prop, entry, part, position, unknown, roleOf}
 use Rattle.law.specs.Layouts as front
 use Rattle.law.specs.Layouts.{Front, Layout, layoutOf, typesOf}
@@ -24,10 +24,10 @@ use Rattle.law.specs.Lists.{Permitted, Distinct}
 use Rattle.law.specs.Files.{titled}
 use Rattle.law.specs.FieldFaults.{FaultyFields}
 
--- a line begins as its kind does, and then has these fields of its own: a keyword in any letter case; PROP; or nothing
+-- a line begins as its kind does, and then has these fields of its own: a keyword or PROP, in any letter case, or nothing
 pub data Fronted : Front → List Field → List Field → Type 0 where
   withKeyword : {k w : List ℕ} {gs : List Field} → AnyCase k w → Fronted (front.keyword k) (field false (46 ∷ w) ∷ gs) gs
-  withProp : {p : List ℕ} {gs : List Field} → sameBytes propWord p ≡ true → Fronted front.prop (field false p ∷ gs) gs
+  withProp : {p : List ℕ} {gs : List Field} → AnyCase propWord p → Fronted front.prop (field false p ∷ gs) gs
   asData : {gs : List Field} → isData gs ≡ true → Fronted front.plain gs gs
 
 -- a line that is no comment and not blank, with no forbidden byte, has these fields

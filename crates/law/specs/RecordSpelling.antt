@@ -12,7 +12,7 @@ use Rattle.law.specs.Numbers.{SpellsNumber}
 use Rattle.law.specs.Integers.{SpellsInteger}
 use Rattle.law.specs.Dates.{isDate}
 use Rattle.law.specs.Values.{Value, number, word, text, Rec}
-use Rattle.law.specs.Words.{wordsOf, propWord, sameBytes}
+use Rattle.law.specs.Words.{wordsOf, propWord}
 use Rattle.law.specs.Layouts.{Front, keyword, prop, plain, Layout, layoutOf}
 use Rattle.law.specs.Fits.{kept, largest, within, meaning, barred}
 use Rattle.law.specs.WordSpelling.{Listed, AnyCase}
@@ -48,7 +48,7 @@ pub data SpellsLine (c : Context) : Front → List FieldType → List Value → 
   withKeyword : {k w : List ℕ} {ts : List FieldType} {vs : List Value} {fs : List Field} {s : List ℕ}
       → AnyCase k w → SpellsFields c ts vs fs → Spelled (field false (46 ∷ w) ∷ fs) s → All permitted s → SpellsLine c (keyword k) ts vs s
   withProp : {p : List ℕ} {ts : List FieldType} {vs : List Value} {fs : List Field} {s : List ℕ}
-      → sameBytes propWord p ≡ true → SpellsFields c ts vs fs → Spelled (field false p ∷ fs) s → All permitted s → SpellsLine c prop ts vs s
+      → AnyCase propWord p → SpellsFields c ts vs fs → Spelled (field false p ∷ fs) s → All permitted s → SpellsLine c prop ts vs s
   asData : {ts : List FieldType} {vs : List Value} {fs : List Field} {s : List ℕ}
       → isData fs ≡ true → begins 35 s ≡ false → SpellsFields c ts vs fs → Spelled fs s → All permitted s → SpellsLine c plain ts vs s
 

@@ -12,7 +12,6 @@ use mir.Syntax.{w64}
 use mir.Val.{SFits}
 use mir.ValLaws.{toZ-ofZ}
 use Rattle.basics.proofs.Bools.{and-none}
-use Rattle.basics.proofs.Meanings.{itself}
 use Rattle.basics.proofs.Integers.{back}
 use Rattle.law.specs.Fields.{field}
 use Rattle.law.specs.Limits.{below, mostDecimals, largestLength, largestAngle, fullTurn, inTurn}
@@ -26,7 +25,10 @@ use Rattle.number.specs.declared.WholeAnswer.{WholeAnswer}
 use Rattle.number.specs.declared.WholeAnswer.the-variants.{Whole, NotInteger}
 use Rattle.law.specs.Values.{number, text}
 use Rattle.form.specs.Values.{good, refused}
-use Rattle.law.specs.Words.{wordsOf, boardWord, sameBytes}
+use Rattle.law.specs.Bytes.{ascii}
+use Rattle.basics.specs.Letters.{cased}
+use Rattle.basics.proofs.Meanings.{name-told}
+use Rattle.law.specs.Words.{wordsOf, boardWord, named, isIn, folded, sameBytes}
 use Rattle.form.specs.Compare.{placeOf}
 use Rattle.law.specs.Fits.{above, versionOf, isVersion, kept, largest, within, meaning, isBoard, barred, fits}
 use Rattle.law.proofs.LargestLaws.{largest-most}
@@ -156,16 +158,16 @@ module _ (s : List ℕ) (a : WholeAnswer) (e : a ≡ readInteger s) where
   pub integer-not : a ≡ NotInteger → Refused 7 ≡ toldInteger s
   integer-not h = rw (sym e ∙ h)
 
-module _ (v : Rules) (l : Words) (s : List ℕ) (p : WordAnswer) (e : p ≡ found (placeOf (wordsOf v l) s)) where
+module _ (v : Rules) (l : Words) (s : List ℕ) (p : WordAnswer) (e : p ≡ found (placeOf (wordsOf v l) (folded s))) where
   pub word-at : (n : ℕ) → p ≡ At n → Word n ≡ toldWord v l s
-  word-at n h = go (placeOf (wordsOf v l) s) (sym h ∙ e)
+  word-at n h = go (placeOf (wordsOf v l) (folded s)) (sym h ∙ e)
     where
       go : (o : Option ℕ) → At n ≡ found o → Word n ≡ told (ofPlace o)
       go none e = cc
       go (some m) e = cc
 
   pub word-not : p ≡ Nowhere → Refused 9 ≡ toldWord v l s
-  word-not h = go (placeOf (wordsOf v l) s) (sym h ∙ e)
+  word-not h = go (placeOf (wordsOf v l) (folded s)) (sym h ∙ e)
     where
       go : (o : Option ℕ) → Nowhere ≡ found o → Refused 9 ≡ told (ofPlace o)
       go none e = refl
@@ -173,9 +175,9 @@ module _ (v : Rules) (l : Words) (s : List ℕ) (p : WordAnswer) (e : p ≡ foun
 
 -- BOARD in a board
 module _ (c : Context) (s : List ℕ) (x : Bool) (e : x ≡ isBoard (c .file)) where
-  pub barred-by : (y : Bool) → x ≡ true → y ≡ sameBytes boardWord s → y ≡ barred c Reference (meaning (T Reference) s)
-  unfolding barred
-  barred-by y h i = rw (sym e ∙ h, itself (T Reference) s) i
+  pub barred-by : (y : Bool) → x ≡ true → y ≡ sameBytes (cased true s) (cased false (ascii "BOARD")) → y ≡ barred c Reference (meaning (T Reference) s)
+  unfolding barred cased named isIn sameBytes
+  barred-by y h i = rw (sym e ∙ h) (i ∙ name-told Reference s boardWord refl)
 
   pub barred-not : x ≡ false → false ≡ barred c Reference (meaning (T Reference) s)
   unfolding barred

@@ -7,7 +7,7 @@ use Rattle.number.specs.Integers.{readInteger}
 use Rattle.law.specs.Dates.{isDate}
 use Rattle.law.specs.Values.{Value, number, word, text}
 use Rattle.form.specs.Values.{Reply, good, refused}
-use Rattle.law.specs.Words.{wordsOf}
+use Rattle.law.specs.Words.{wordsOf, folded}
 use Rattle.form.specs.Compare.{placeOf}
 use Rattle.law.specs.Fits.{kept, largest, meaning, barred}
 use Rattle.form.specs.Reading.{ofCount, ofInteger, ofPlace}
@@ -35,7 +35,7 @@ abbrev pub toldInteger : List ℕ → FieldReply
 toldInteger s = told (ofInteger (readInteger s))
 
 abbrev pub toldWord : Rules → Words → List ℕ → FieldReply
-toldWord v l s = told (ofPlace (placeOf (wordsOf v l) s))
+toldWord v l s = told (ofPlace (placeOf (wordsOf v l) (folded s)))
 
 abbrev pub toldText : Context → Texts → List ℕ → FieldReply
 toldText c k s = cond (barred c k (meaning (Text k) s)) (Refused 9) Bytes

@@ -189,13 +189,13 @@ fn is_board(f: FileType) -> bool
     }
 }
 
-// Whether a reference is BOARD, in a board.
+// Whether a reference means BOARD, in a board.
 fn bars_reference(c: Context, s: &[u8]) -> bool
     ensures { λ r. ⌜ r ≡ barred c Reference (meaning (Text Reference) (now (s .entry))) ⌝ }
 {
     let f = c.file;
     if is_board(f) {
-        return basics::same_bytes(b"BOARD", s);
+        return basics::same_letters(s, true, b"BOARD", false);
     }
     false
 }

@@ -28,7 +28,7 @@ use Rattle.number.specs.declared.WholeAnswer.{WholeAnswer}
 use Rattle.number.specs.declared.WholeAnswer.the-variants.{Whole, NotInteger}
 use Rattle.law.specs.Values.{Value, number, word, text}
 use Rattle.form.specs.Values.{Reply, good, refused}
-use Rattle.law.specs.Words.{wordsOf, sameBytes}
+use Rattle.law.specs.Words.{wordsOf, sameBytes, folded}
 use Rattle.form.specs.Compare.{up, placeOf}
 use Rattle.law.specs.Fits.{kept, largest, within, meaning, barred}
 use Rattle.form.specs.Fits.{beyond}
@@ -111,7 +111,7 @@ wide c I (field false s) = wide-integer (readInteger s)
 wide c (N l) (field true s) = tt
 wide c (N l) (field false s) = wide-count c l (readNumber (kept c l) (largest l) s)
 wide c (W l) (field true s) = tt
-wide c (W l) (field false s) = wide-word (c .rules) l s (placeOf (wordsOf (c .rules) l) s) refl
+wide c (W l) (field false s) = wide-word (c .rules) l (folded s) (placeOf (wordsOf (c .rules) l) (folded s)) refl
 
 -- what an entry is like: as many columns as its type has, and within the line
 abbrev Shaped : FieldType → List ℕ → Entry → Type 0

@@ -19,8 +19,7 @@ use Rattle.text_fields.specs.declared.FieldAnswer.the-variants.{Nothing, Got, B
 use Rattle.text_fields.specs.declared.CountAnswer.{CountAnswer}
 use Rattle.text_fields.specs.declared.CountAnswer.the-variants.{Fields, Bad as BadCount}
 use Rattle.text_fields.proofs.Bounds.{Lies, Bounded, bounded}
-use Rattle.law.specs.Words.{propWord, sameBytes}
-use Rattle.form.specs.Compare.{folded}
+use Rattle.law.specs.Words.{propWord, sameBytes, folded}
 use Rattle.form.specs.Reading.{keyLine, dataLine, byFirst, byFields, lineAs, keywordOf}
 use Rattle.form.specs.declared.Keyword.{Keyword}
 use Rattle.line_rows.specs.LineKinds.{behind, kindBy, kindOf, bareKind, firstBy}
@@ -32,7 +31,7 @@ module _ (w : List ℕ) (n m : ℕ) (t : Bool) (e : t ≡ begins 46 w) where
   unfolding bareKind
   bare-key k h x = rw (sym e ∙ h, x)
 
-  pub bare-data : (p : Bool) → t ≡ false → p ≡ sameBytes propWord w → Data p n m ≡ bareKind w n m
+  pub bare-data : (p : Bool) → t ≡ false → p ≡ sameBytes propWord (folded w) → Data p n m ≡ bareKind w n m
   unfolding bareKind
   bare-data p h x = rw (sym e ∙ h, x)
 
@@ -72,7 +71,7 @@ first-is : (s : List ℕ) (fs : List Field) → fieldsOf s ≡ some fs → first
 unfolding fieldsOf fieldsIn bareKind
 first-is s fs e = go (fieldOf s) e
   where
-    by : (t : Bool) (w : List ℕ) (gs : List Field) (m : ℕ) → cond t (Key (keywordOf (folded w)) (suc (length gs)) m) (Data (sameBytes propWord w) (suc (length gs)) m) ≡ kindBy (cond t (keyLine (folded w) gs) (dataLine (field false w ∷ gs))) m
+    by : (t : Bool) (w : List ℕ) (gs : List Field) (m : ℕ) → cond t (Key (keywordOf (folded w)) (suc (length gs)) m) (Data (sameBytes propWord (folded w)) (suc (length gs)) m) ≡ kindBy (cond t (keyLine (folded w) gs) (dataLine (field false w ∷ gs))) m
     by true w gs m = refl
     by false w gs m = refl
 

@@ -25,7 +25,7 @@ use Rattle.number.specs.declared.WholeAnswer.{WholeAnswer}
 use Rattle.number.specs.declared.WholeAnswer.the-variants.{Whole, NotInteger}
 use Rattle.law.specs.Values.{Value, number, word, text}
 use Rattle.form.specs.Values.{Reply, good, refused}
-use Rattle.law.specs.Words.{wordsOf}
+use Rattle.law.specs.Words.{wordsOf, folded}
 use Rattle.form.specs.Compare.{placeOf}
 use Rattle.law.specs.Fits.{kept, largest, within, meaning, barred}
 use Rattle.form.specs.Fits.{beyond}
@@ -105,7 +105,7 @@ module _ (file : List ℕ) (a l : ℕ) (inside : a + l ≤ length file) where
   fores c (N m) true = λ h. omega arith
   fores c (N m) false = fores-count c m (readNumber (kept c m) (largest m) (take l (drop a file)))
   fores c (W ws) true = λ h. omega arith
-  fores c (W ws) false = fores-word ws (placeOf (wordsOf (c .rules) ws) (take l (drop a file)))
+  fores c (W ws) false = fores-word ws (placeOf (wordsOf (c .rules) ws) (folded (take l (drop a file))))
 
 -- A row as it is filled
 

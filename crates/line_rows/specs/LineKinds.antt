@@ -8,8 +8,7 @@ use Rattle.law.specs.Fields.{Field, field}
 use Rattle.text_fields.specs.FirstField.{fieldOf}
 use Rattle.text_fields.specs.declared.FieldAnswer.{FieldAnswer}
 use Rattle.text_fields.specs.declared.FieldAnswer.the-variants.{Nothing, Got, Broken}
-use Rattle.law.specs.Words.{propWord, sameBytes}
-use Rattle.form.specs.Compare.{folded}
+use Rattle.law.specs.Words.{propWord, sameBytes, folded}
 use Rattle.form.specs.Reading.{Line, free, bad, keyLine, dataLine, lineAs, keywordOf}
 use Rattle.line_rows.specs.declared.LineKind.{LineKind}
 use Rattle.line_rows.specs.declared.LineKind.the-variants.{Free, Bad, Key, Data}
@@ -18,7 +17,7 @@ use Rattle.line_rows.specs.declared.LineKind.the-variants.{Free, Bad, Ke
 abbrev pub isProp : List Field → Bool
 isProp [] = false
 isProp (field true s ∷ fs) = false
-isProp (field false s ∷ fs) = sameBytes propWord s
+isProp (field false s ∷ fs) = sameBytes propWord (folded s)
 
 -- the place behind the first field
 abbrev pub behind : FieldAnswer → ℕ
@@ -37,7 +36,7 @@ kindOf s = kindBy (lineAs s) (behind (fieldOf s))
 
 -- by the first field, of n; the place behind it is m
 unfoldable pub bareKind : List ℕ → ℕ → ℕ → LineKind
-bareKind w n m = cond (begins 46 w) (Key (keywordOf (folded w)) n m) (Data (sameBytes propWord w) n m)
+bareKind w n m = cond (begins 46 w) (Key (keywordOf (folded w)) n m) (Data (sameBytes propWord (folded w)) n m)
 
 abbrev pub firstBy : FieldAnswer → List ℕ → ℕ → LineKind
 firstBy Nothing s n = Free

@@ -19,7 +19,7 @@ use Rattle.law.specs.Words.{sameBytes}
 use Rattle.names_slots.specs.Hashes.{hashed}
 use Rattle.rows_texts.specs.Texts.{textAt, textIs, sameMeanings, sameTexts}
 use Rattle.law.specs.declared.FieldType.{FieldType}
-use Rattle.basics.proofs.Meanings.{itself}
+use Rattle.law.specs.Fits.{meaning}
 
 -- the smaller of two numbers
 pub smaller-first : (a b : ℕ) → a < b → a ≡ min a b
@@ -68,20 +68,20 @@ module _ (file : List ℕ) (i j : ℤ) (t : List ℕ) (e : t ≡ textAt file (ba
   text-back : t ≡ textAt file i j
   text-back = e ∙ rw (toZ-ofZ w64 i f1, toZ-ofZ w64 j f2)
 
-  pub text-by : (y : FieldType) (word : List ℕ) (x : Bool) → x ≡ sameBytes t word → x ≡ textIs y file i j word
+  pub text-by : (y : FieldType) (word : List ℕ) (x : Bool) → x ≡ sameBytes (meaning y t) word → x ≡ textIs y file i j word
   unfolding textIs
-  text-by y word x h = h ∙ ap (λ (s : List ℕ). sameBytes s word) (text-back ∙ sym (itself y (textAt file i j)))
+  text-by y word x h = h ∙ ap (λ (s : List ℕ). sameBytes (meaning y s) word) text-back
 
   pub hash-by : (h r : ℕ) → r ≡ hashed h t → r ≡ hashed h (textAt file i j)
   hash-by h r g = g ∙ ap (hashed h) text-back
 
--- while a text means its own bytes
-pub meanings-by : (y : FieldType) (f h : List ℕ) (i j k l : ℤ) (x : Bool) → SFits w64 i → SFits w64 j → SFits w64 k → SFits w64 l
-    → x ≡ sameTexts f (back i) (back j) h (back k) (back l) → x ≡ sameMeanings y f i j h k l
-unfolding sameTexts sameMeanings
-meanings-by y f h i j k l x f1 f2 f3 f4 g = g ∙ rw (toZ-ofZ w64 i f1, toZ-ofZ w64 j f2, toZ-ofZ w64 k f3, toZ-ofZ w64 l f4, itself y (textAt f i j), itself y (textAt h k l))
+-- two of them
+module _ (f h : List ℕ) (i j k l : ℤ) (t u : List ℕ) (x : Bool) (e1 : t ≡ textAt f (back i) (back j)) (e2 : u ≡ textAt h (back k) (back l))
+    (f1 : SFits w64 i) (f2 : SFits w64 j) (f3 : SFits w64 k) (f4 : SFits w64 l) where
+  pub meanings-by : (y : FieldType) → x ≡ sameBytes (meaning y t) (meaning y u) → x ≡ sameMeanings y f i j h k l
+  unfolding sameMeanings
+  meanings-by y g = g ∙ rw (text-back f i j t e1 f1 f2, text-back h k l u e2 f3 f4)
 
-pub texts-by : (f h : List ℕ) (i j k l : ℤ) (t u : List ℕ) (x : Bool) → t ≡ textAt f (back i) (back j) → u ≡ textAt h (back k) (back l)
-    → SFits w64 i → SFits w64 j → SFits w64 k → SFits w64 l → x ≡ sameBytes t u → x ≡ sameTexts f i j h k l
-unfolding sameTexts
-texts-by f h i j k l t u x e1 e2 f1 f2 f3 f4 g = g ∙ rw (text-back f i j t e1 f1 f2, text-back h k l u e2 f3 f4)
+  pub texts-by : x ≡ sameBytes t u → x ≡ sameTexts f i j h k l
+  unfolding sameTexts
+  texts-by g = g ∙ rw (text-back f i j t e1 f1 f2, text-back h k l u e2 f3 f4)

@@ -34,7 +34,7 @@ fn text(file: &[u8], start: i64, len: i64) -> &[u8]
 pub fn text_is(t: FieldType, file: &[u8], start: i64, len: i64, word: &[u8]) -> bool
     ensures { λ r. ⌜ r ≡ textIs t (now (file .entry)) start len (now (word .entry)) ⌝ }
 {
-    basics::same_bytes(text(file, start, len), word)
+    rows_names::means(t, text(file, start, len), word)
 }
 
 // Whether texts of two files, or of one, are the same.
@@ -56,7 +56,7 @@ pub fn same_meanings(
 ) -> bool
     ensures { λ r. ⌜ r ≡ sameMeanings t (now (first .entry)) start len (now (second .entry)) other size ⌝ }
 {
-    same_texts(first, start, len, second, other, size)
+    rows_names::same_meanings(t, text(first, start, len), text(second, other, size))
 }
 
 // The hash of a text behind what gave h.

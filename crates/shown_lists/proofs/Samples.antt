@@ -15,10 +15,10 @@ use Rattle.law.specs.Bytes.{allOf, ascii}
 use Rattle.law.specs.Limits.{largestLength}
 use Rattle.law.specs.Dates.{datePieces, isTwo, fitsIn, isDate}
 use Rattle.law.specs.Values.{Value, number, word, text, Rec}
-use Rattle.law.specs.Words.{sameBytes}
+use Rattle.law.specs.Words.{sameBytes, named, isIn, folded}
 use Rattle.law.specs.Kinds.{kindAt, sectionOf, Role, lead, point, part, unknown, roleOf}
 use Rattle.law.specs.Layouts.{typesOf}
-use Rattle.law.specs.Fits.{versionOf, isBoard, under, within, textByte, barred, goodText, meaning, fits, fitsAll, wellFormed, WellFormed}
+use Rattle.law.specs.Fits.{versionOf, isBoard, under, within, textByte, barred, goodText, meaning, fits, fitsAll, wellFormed, WellFormed, isName}
 use Rattle.law.specs.declared.Rules.{Rules}
 use Rattle.law.specs.declared.FileType.{FileType}
 use Rattle.law.specs.declared.FileType.the-variants.{Board as board, Panel as panel, Library as library}
@@ -119,7 +119,7 @@ module _ (v : Rules) where
 
   module _ (w : List ℕ) (e : allOf textByte w ≡ true) where
     sample-fits : (t : FileType) (f : FieldType) → fits (under v t) f (sampleValue v w f) ≡ true
-    unfolding fits goodText meaning allOf sameBytes barred isDate isTwo fitsIn datePieces
+    unfolding fits goodText meaning isName named isIn folded allOf sameBytes barred isDate isTwo fitsIn datePieces
     sample-fits t (Text Plain) = rw (e, bytes-self w)
     sample-fits t (Text Reference) = never-board t
     sample-fits t (Text Hole) = refl

@@ -5,7 +5,7 @@ use mathlib.Core.List.{List, [], _∷_}
 use native.Mathlib.Omega.{arith}
 use lib.IntN.{ℤ, pos}
 use lib.ListN.{getD}
-use Rattle.law.specs.Fits.{meaning}
+use Rattle.law.specs.Fits.{meaning, isName}
 use Rattle.law.specs.declared.Texts.the-variants.{Plain}
 use Rattle.law.specs.declared.FieldType.the-variants.{Text as T}
 use Rattle.law.specs.Rows as column
@@ -13,10 +13,11 @@ use Rattle.law.specs.Rows.{Holds, aText}
 use Rattle.law.specs.RowPlaces.{RowOf}
 use Rattle.law.proofs.DerivedPlaces.{property, its, rowFrom, its-row}
 use Rattle.shown_places.proofs.OneRow.{row-one}
+use Rattle.law.specs.Words.{named, isIn, folded, sameBytes}
 
 -- the values of PROP A A are meant by a row in which the second text has the place of the first
 pub meant-elsewhere : Holds property 143 (T Plain ∷ T Plain ∷ []) (rowFrom 5 5) (its .values)
-unfolding meaning
+unfolding meaning isName named isIn folded sameBytes
 meant-elsewhere = record {
   columns = pos 5 ∷ pos 1 ∷ pos 5 ∷ pos 1 ∷ [];
   left = 5;

@@ -14,10 +14,10 @@ use Rattle.text_fields.specs.Fields.{fieldsBy, fieldsIn, fieldsOf}
 use Rattle.text_fields.specs.declared.FieldAnswer.{FieldAnswer}
 use Rattle.text_fields.specs.declared.FieldAnswer.the-variants.{Nothing, Got, Broken}
 use Rattle.text_fields.proofs.FieldSpelling.{sound-in, fields-complete}
-use Rattle.form.specs.Compare.{folded}
 use Rattle.form.specs.Reading.{Line, free, bad, keyLine, dataLine, byFirst, byFields, lineAs}
 use Rattle.line_rows.specs.LineKinds.{behind}
 use Rattle.line_rows.proofs.LookLaws.{got-lies, some-before}
+use Rattle.law.specs.Words.{folded}
 
 -- from the place m on, a line has the fields fs
 pub record From (s : List ℕ) (m : ℕ) (fs : List Field) : Type 0 where

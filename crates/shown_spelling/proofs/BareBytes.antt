@@ -20,6 +20,7 @@ use Rattle.number_read.proofs.NumberLaws.{digit-low}
 use Rattle.number_read.proofs.NumberSpelling.{numeral-first}
 use Rattle.law.specs.Words.{isCapital, isSmall}
 use Rattle.law.specs.Fits.{textByte}
+use Rattle.law.specs.WordSpelling.{AnyCase, end, same}
 
 abbrev pub tight : ℕ → Bool
 tight b = inBare b && permitted b
@@ -185,3 +186,8 @@ tight-name b h = let r = name-range b h in tight-low b (omega arith) (omega arit
 
 pub name-not-small : (b : ℕ) → nameByte b ≡ true → isSmall b ≡ false
 name-not-small b h = let r = name-range b h in rw (lt-leb 97 b (omega arith))
+
+-- so it is spelled by itself
+pub name-case : (k : List ℕ) → All nameByte k → AnyCase k k
+name-case [] by.none = end
+name-case (b ∷ k) (by.one h a) = same (name-not-small b h) (name-case k a)

@@ -13,15 +13,14 @@ use Rattle.law.specs.Bytes.{permitted, All, begins}
 use Rattle.law.specs.Fields.{Field, field, Spells, bare, quoted, Spelled}
 use Rattle.law.specs.Fields as sp
 use Rattle.law.specs.Values.{Value, Rec}
-use Rattle.law.specs.Words.{propWord, sameBytes}
+use Rattle.law.specs.Words.{propWord}
 use Rattle.law.specs.Layouts.{Front, keyword, prop, plain, Layout, layoutOf}
 use Rattle.law.specs.Fits.{fits, fitsAll, fitsBy, wellFormed, WellFormed}
 use Rattle.law.specs.declared.Context.{Context}
 use Rattle.law.specs.declared.FieldType.{FieldType}
-use Rattle.law.specs.WordSpelling.{AnyCase, end, same}
 use Rattle.law.specs.RecordSpelling.{SpellsFields, none as noFields, more, isData, SpellsLine, withKeyword, withProp, asData, SpellsRecord, asLine}
 use Rattle.law.specs.Canonical.{canonicalFields, written, joined, withFront, canonicalLine, canonicalRecord}
-use Rattle.shown_spelling.proofs.BareBytes.{tight, safe, nameByte, all-append, all-map, tight-bare, tight-permitted, text-permitted, text-quoted, tight-name, name-not-small}
+use Rattle.shown_spelling.proofs.BareBytes.{tight, safe, nameByte, all-append, all-map, tight-bare, tight-permitted, text-permitted, text-quoted, tight-name, name-case}
 use Rattle.shown_spelling.proofs.Tables.{goodFront, layout-front}
 use Rattle.shown_spelling.proofs.RecordSpelling.{record-unique}
 use Rattle.shown_spelling.proofs.CanonicalFields.{Writes, asBare, asQuoted, field-canon}
@@ -82,14 +81,6 @@ joined-first [] (asQuoted a) = refl
 joined-first (g ∷ fs) (asBare {s} a h) = append-first s (32 ∷ joined (g ∷ fs)) h
 joined-first (g ∷ fs) (asQuoted a) = refl
 
-name-case : (k : List ℕ) → All nameByte k → AnyCase k k
-name-case [] by.none = end
-name-case (b ∷ k) (by.one h a) = same (name-not-small b h) (name-case k a)
-
-prop-self : sameBytes propWord propWord ≡ true
-unfolding sameBytes
-prop-self = refl
-
 module _ (c : Context) where
   record Canons (ts : List FieldType) (vs : List Value) : Type 0 where
     spells : SpellsFields c ts vs (canonicalFields (c .rules) ts vs)
@@ -114,9 +105,9 @@ module _ (c : Context) where
       withKeyword (name-case k a) (r .spells) (joined-spelled p) (joined-clean p)
   line-canon prop ts vs h g =
       let r = fields-canon ts vs g in
-      let t : All tight propWord = by.one refl (by.one refl (by.one refl (by.one refl by.none))) in
-      let p : Fines (field false propWord ∷ canonicalFields (c .rules) ts vs) = fine (tight-fine t) (r .fines) in
-      withProp prop-self (r .spells) (joined-spelled p) (joined-clean p)
+      let a : All nameByte propWord = by.one refl (by.one refl (by.one refl (by.one refl by.none))) in
+      let p : Fines (field false propWord ∷ canonicalFields (c .rules) ts vs) = fine (tight-fine (all-map tight-name a)) (r .fines) in
+      withProp (name-case propWord a) (r .spells) (joined-spelled p) (joined-clean p)
   line-canon plain [] vs h g = absurd (false≢true h)
   line-canon plain (t ∷ ts) [] h g = absurd (false≢true g)
   line-canon plain (t ∷ ts) (v ∷ vs) h g =

@@ -21,7 +21,7 @@ use Rattle.number.specs.declared.WholeAnswer.the-variants.{Whole, NotInteger}
 use Rattle.number_read.proofs.NumberSpelling.{number-sound, number-complete}
 use Rattle.law.specs.Values.{Value, number, text}
 use Rattle.form.specs.Values.{Reply, good, refused}
-use Rattle.law.specs.Words.{wordsOf}
+use Rattle.law.specs.Words.{wordsOf, folded}
 use Rattle.form.specs.Compare.{placeOf}
 use Rattle.law.specs.Fits.{kept, largest, within, meaning, barred}
 use Rattle.form.specs.Fits.{beyond}
@@ -114,9 +114,9 @@ module _ (c : Context) where
   field-fault (N l) (field true s) n e = subst (FaultyField c (N l) (field true s)) (one-refusal e) quoted-number
   field-fault (N l) (field false s) n e = count-fault l s n (readNumber (kept c l) (largest l) s) refl e
   field-fault (W l) (field true s) n e = subst (FaultyField c (W l) (field true s)) (one-refusal e) (no-word (no-value e))
-  field-fault (W l) (field false s) n e = go (placeOf (wordsOf (c .rules) l) s) refl
+  field-fault (W l) (field false s) n e = go (placeOf (wordsOf (c .rules) l) (folded s)) refl
     where
-      go : (o : Option ℕ) → placeOf (wordsOf (c .rules) l) s ≡ o → FaultyField c (W l) (field false s) n
+      go : (o : Option ℕ) → placeOf (wordsOf (c .rules) l) (folded s) ≡ o → FaultyField c (W l) (field false s) n
       go none h = subst (FaultyField c (W l) (field false s)) (one-refusal (rw h at e)) (no-word (no-value e))
       go (some m) h = absurd (no-refusal (rw h at e))
 
@@ -143,7 +143,7 @@ module _ (c : Context) where
   only-word : (l : Words) → Only (W l) 9
   unfolding readField
   only-word l (field true s) m e = sym (one-refusal e)
-  only-word l (field false s) m e = go (placeOf (wordsOf (c .rules) l) s) e
+  only-word l (field false s) m e = go (placeOf (wordsOf (c .rules) l) (folded s)) e
     where
       go : (a : Option ℕ) → ofPlace a ≡ refused m → m ≡ 9
       go none e = sym (one-refusal e)

@@ -11,13 +11,13 @@ use lib.ListN.{length}
 use Rattle.basics.proofs.Bytes.{bytes-true, bytes-self}
 use Rattle.basics.proofs.Bools.{and-left, and-right, cond-cases, none-some, or-second}
 use Rattle.law.specs.Sections.{sectionNames, SectionForm, sections, nth, sectionAt}
-use Rattle.law.specs.Words.{endWord, sameBytes, wordAt}
+use Rattle.law.specs.Words.{endWord, sameBytes, isIn, wordAt}
 use Rattle.law.specs.Layouts.{openWord, closeWord}
 use Rattle.form.specs.Reading.{keyFrom, keyBy, keywordOf}
 use Rattle.law.specs.declared.Rules.{Rules}
 use Rattle.form.specs.declared.Keyword.{Keyword}
 use Rattle.form.specs.declared.Keyword.the-variants.{Opening, Closing, Unknown}
-use Rattle.shown_spelling.proofs.WordSpelling.{isIn, differ}
+use Rattle.shown_spelling.proofs.WordSpelling.{differ}
 use Rattle.shown_spelling.proofs.Tables.{startsWith, names-differ, name-no-end, sections-named}
 
 -- a prefix does not change whether bytes are the same
@@ -27,7 +27,7 @@ same-after [] s t = refl
 same-after (a ∷ p) s t = rw (eq-eqb a a refl) (same-after p s t)
 
 at-in : (ks : List (List ℕ)) (i : ℕ) → i < length ks → isIn (wordAt ks i) ks ≡ true
-unfolding wordAt
+unfolding wordAt isIn
 at-in [] i h = absurd (omega arith)
 at-in (k ∷ ks) zero h = rw (bytes-self k)
 at-in (k ∷ ks) (suc i) h = or-second (sameBytes (wordAt ks i) k) _ (at-in ks i (omega arith))

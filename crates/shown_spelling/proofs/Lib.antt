@@ -11,4 +11,5 @@ pub mod RecordSpelling
 pub mod CanonicalFields
 pub mod CanonicalLines
 pub mod FileSpelling
+pub mod OtherLetters
 pub mod Cases

@@ -1,6 +1,6 @@
 -- A record's line is read exactly where the rules spell it.
 use Prim.Native.Nat.{ℕ}
-use mathlib.Core.Path.{_≡_, refl, sym, ap, _∙_}
+use mathlib.Core.Path.{_≡_, refl, ap, _∙_}
 use mathlib.Core.List.{List, [], _∷_}
 use mathlib.Core.Option.{Option, none, some}
 use mathlib.Core.Bool.{Bool, true, false, cond, false≢true}
@@ -8,22 +8,21 @@ use borrow.Author.Tests.{eqb-true, not-true}
 use lib.Dec.{eqb}
 use Rattle.basics.proofs.Bytes.{bytes-true, bytes-same}
 use Rattle.basics.proofs.Lists.{all-sound, all-complete}
-use Rattle.law.specs.Bytes.{permitted, All, allOf, begins, ascii}
+use Rattle.law.specs.Bytes.{permitted, All, allOf, begins}
 use Rattle.law.specs.Fields.{Field, field, bare, Spelled, space, last, next}
 use Rattle.text_fields.specs.Fields.{fieldsOf}
 use Rattle.text_fields.proofs.FieldSpelling.{fields-sound, fields-complete}
 use Rattle.law.specs.Values.{Value}
 use Rattle.form.specs.Values.{Reply, good, refused}
-use Rattle.law.specs.Words.{propWord, sameBytes}
-use Rattle.form.specs.Compare.{folded}
+use Rattle.law.specs.Words.{propWord, sameBytes, folded}
 use Rattle.law.specs.Layouts.{Front, keyword, prop, plain}
 use Rattle.form.specs.Reading.{readFields, Line, free, bad, keyLine, dataLine, byFirst, byFields, lineAs, afterProp, after, fieldsBy, readLine}
 use Rattle.law.specs.declared.Context.{Context}
 use Rattle.law.specs.declared.FieldType.{FieldType}
-use Rattle.law.specs.WordSpelling.{AnyCase}
+use Rattle.law.specs.WordSpelling.{AnyCase, same, small}
 use Rattle.law.specs.RecordSpelling.{SpellsFields, isData, SpellsLine, withKeyword, withProp, asData}
 use Rattle.shown_spelling.proofs.Logic.{refused-good, cond-good}
-use Rattle.shown_spelling.proofs.WordSpelling.{case-folds, folds-case}
+use Rattle.shown_spelling.proofs.WordSpelling.{case-folds, any-case}
 use Rattle.shown_spelling.proofs.ValueSpelling.{values-sound, values-complete}
 
 -- What `lineAs` answers, as a property of the answer
@@ -93,7 +92,7 @@ module _ {c : Context} where
       let x : 46 ∷ k ≡ 46 ∷ folded (l .v) = bytes-true (46 ∷ k) w (g .0) ∙ l .folds in
       let y : k ≡ folded (l .v) = cc in
       let z : fs ≡ gs = cc (g .1) in
-      let m : AnyCase k (l .v) = rw y (folds-case (l .v)) in
+      let m : AnyCase k (l .v) = any-case y in
       let p : Spelled (field false (46 ∷ l .v) ∷ fs) s = rw z (l .spelled) in
       withKeyword m r p (l .clean)
 
@@ -101,9 +100,9 @@ module _ {c : Context} where
   prop-sound [] l e r = absurd (refused-good e)
   prop-sound (field true v ∷ gs) l e r = absurd (refused-good e)
   prop-sound {s = s} {fs = fs} (field false v ∷ gs) l e r =
-      let g = cond-good 5 (sameBytes propWord v) e in
+      let g = cond-good 5 (sameBytes propWord (folded v)) e in
       let z : fs ≡ gs = cc (g .1) in
-      withProp {p = v} {s = s} (g .0) r (rw z (l .spelled)) (l .clean)
+      withProp {p = v} {s = s} (any-case (bytes-true propWord (folded v) (g .0))) r (rw z (l .spelled)) (l .clean)
 
   after-sound : (f : Front) {ts : List FieldType} {vs : List Value} {s : List ℕ} {fs : List Field} (l : Line) → LineBy s l → after f l ≡ good fs → SpellsFields c ts vs fs → SpellsLine c f ts vs s
   after-sound f free p e r = absurd (refused-good e)
@@ -135,7 +134,7 @@ line-fields : {s : List ℕ} {fs : List Field} → begins 35 s ≡ false → All
 unfolding lineAs
 line-fields {s} {fs} h a r = rw (h, all-complete permitted a, fields-complete s fs r)
 
--- PROP begins with neither # nor a period
+-- PROP begins in no letter case with # or a period
 record Head (p : List ℕ) : Type 0 where
   b : ℕ
   q : List ℕ
@@ -143,17 +142,18 @@ record Head (p : List ℕ) : Type 0 where
   hash : eqb b 35 ≡ false
   period : eqb b 46 ≡ false
 
-prop-head : (p : List ℕ) → sameBytes propWord p ≡ true → Head p
-prop-head p h = record { b = 80; q = ascii "ROP"; is = sym (bytes-true propWord p h); hash = refl; period = refl }
+prop-head : {p : List ℕ} → AnyCase propWord p → Head p
+prop-head (same {s = s} h r) = record { b = 80; q = s; is = refl; hash = refl; period = refl }
+prop-head (small {s = s} h r) = record { b = 112; q = s; is = refl; hash = refl; period = refl }
 
 key-line : {k w : List ℕ} {fs : List Field} {s : List ℕ} → AnyCase k w → Spelled (field false (46 ∷ w) ∷ fs) s → All permitted s → lineAs s ≡ keyLine (46 ∷ k) fs
 unfolding begins folded
 key-line m p a = line-fields (first-byte 35 p refl refl) a p ∙ rw (case-folds m)
 
-prop-line : {p : List ℕ} {fs : List Field} {s : List ℕ} → sameBytes propWord p ≡ true → Spelled (field false p ∷ fs) s → All permitted s → lineAs s ≡ dataLine (field false p ∷ fs)
+prop-line : {p : List ℕ} {fs : List Field} {s : List ℕ} → AnyCase propWord p → Spelled (field false p ∷ fs) s → All permitted s → lineAs s ≡ dataLine (field false p ∷ fs)
 unfolding begins
 prop-line {p} h q a =
-    let e = prop-head p h in
+    let e = prop-head h in
     line-fields (first-byte 35 (rw (e .is) at q) (e .hash) refl) a q ∙ rw (e .is, e .period)
 
 data-line : {s : List ℕ} (fs : List Field) → isData fs ≡ true → begins 35 s ≡ false → Spelled fs s → All permitted s → lineAs s ≡ dataLine fs
@@ -165,12 +165,12 @@ data-line (field false v ∷ fs) d h q a = line-fields h a q ∙ rw (not-true (b
 -- What a line of a front and fields looks like
 abbrev pub Looks : Front → List Field → Line → Type 0
 Looks (keyword k) fs l = l ≡ keyLine (46 ∷ k) fs
-Looks prop fs l = (p : List ℕ) × (sameBytes propWord p ≡ true) × (l ≡ dataLine (field false p ∷ fs))
+Looks prop fs l = (p : List ℕ) × AnyCase propWord p × (l ≡ dataLine (field false p ∷ fs))
 Looks plain fs l = l ≡ dataLine fs
 
 after-looks : (f : Front) (fs : List Field) (l : Line) → Looks f fs l → after f l ≡ good fs
 after-looks (keyword k) fs l e = rw (e, bytes-same (46 ∷ k) (46 ∷ k) refl)
-after-looks prop fs l e = rw (e .2, e .1)
+after-looks prop fs l e = rw (e .2, case-folds (e .1), bytes-same propWord propWord refl)
 after-looks plain fs l e = rw e
 
 -- What a record's line looks like, and that its fields read as the record's values
@@ -215,5 +215,5 @@ module _ {c : Context} where
   pub line-first : {f : Front} {ts : List FieldType} {vs : List Value} {s : List ℕ} → SpellsLine c f ts vs s → First f s
   unfolding begins
   line-first (withKeyword m r p a) = record { hash = first-byte 35 p refl refl; clean = a; keyed = rw (key-line m p a) }
-  line-first (withProp {p = w} h r p a) = let e = prop-head w h in record { hash = first-byte 35 (rw (e .is) at p) (e .hash) refl; clean = a; keyed = rw (prop-line h p a) }
+  line-first (withProp {p = w} h r p a) = let e = prop-head h in record { hash = first-byte 35 (rw (e .is) at p) (e .hash) refl; clean = a; keyed = rw (prop-line h p a) }
   line-first (asData {fs = fs} d h r p a) = record { hash = h; clean = a; keyed = rw (data-line fs d h p a) }

@@ -11,7 +11,7 @@ use Rattle.basics.proofs.Lists.{all-sound, all-complete}
 use Rattle.basics.proofs.Bools.{and-left, and-right, none-some}
 use Rattle.law.specs.Bytes as by
 use Rattle.law.specs.Bytes.{permitted, All, allOf}
-use Rattle.law.specs.Words.{wordsOf, endWord, sameBytes, wordAt}
+use Rattle.law.specs.Words.{wordsOf, endWord, sameBytes, isIn, wordAt}
 use Rattle.law.specs.Sections.{sectionNames, SectionForm, sections, nth, sectionAt}
 use Rattle.law.specs.Kinds as role
 use Rattle.law.specs.Kinds.{Role, roleIn, sectionOf, lineOf}
@@ -24,7 +24,7 @@ use Rattle.law.specs.declared.Words.the-variants.{FileTypes, Units, Owners, Fac
 use Rattle.law.specs.declared.FieldType.{FieldType}
 use Rattle.law.specs.WordSpelling.{Listed, here, there}
 use Rattle.shown_spelling.proofs.WordSpelling.{differ}
-use Rattle.shown_spelling.proofs.BareBytes.{tight, safe, nameByte, all-append}
+use Rattle.shown_spelling.proofs.BareBytes.{tight, safe, nameByte, all-append, name-case}
 
 -- A test over a list
 abbrev pub every : {A : Type 0} → (A → Bool) → List A → Bool
@@ -43,12 +43,12 @@ at-word p [] n h e = e
 at-word p (w ∷ l) zero h e = and-left (p w) _ h
 at-word p (w ∷ l) (suc n) h e = at-word p l n (and-right (p w) _ h) e
 
--- Words: bytes that can stand bare, so at least one, by which the word is found
+-- Words: bytes that can stand bare, so at least one, and are capital letters or underscores
 abbrev pub isWord : List ℕ → Bool
-isWord w = allOf tight w && (safe w && sameBytes w w)
+isWord w = allOf tight w && (safe w && allOf nameByte w)
 
 words-good : (v : Rules) (l : Words) → differ (wordsOf v l) && every isWord (wordsOf v l) ≡ true
-unfolding wordsOf sameBytes allOf permitted
+unfolding wordsOf sameBytes isIn allOf permitted
 words-good Idf3 FileTypes = refl
 words-good Idf3 Units = refl
 words-good Idf3 Owners = refl
@@ -80,7 +80,7 @@ unfolding wordAt isEmpty
 word-listed [] n h k = absurd (true≢false k)
 word-listed (w ∷ ws) zero h k =
     let g = and-left (isWord w) _ h in
-    (g, here (and-right (safe w) _ (and-right (allOf tight w) _ g)))
+    (g, here (name-case w (all-sound nameByte w (and-right (safe w) _ (and-right (allOf tight w) _ g)))))
 word-listed (w ∷ ws) (suc n) h k =
     let i = word-listed ws n (and-right (isWord w) _ h) k in
     (i .0, there (i .1))
@@ -95,7 +95,7 @@ abbrev isName : List ℕ → Bool
 isName k = allOf nameByte k && not (startsWith endWord k)
 
 names-good : differ sectionNames && every isName sectionNames ≡ true
-unfolding sectionNames sameBytes allOf sections
+unfolding sectionNames sameBytes isIn allOf sections
 names-good = refl
 
 pub names-differ : differ sectionNames ≡ true

@@ -14,10 +14,10 @@ use Rattle.law.specs.Fields.{Field, field, Spelled, end, space}
 use Rattle.law.specs.Lines.{Free, blank, comment}
 use Rattle.text_fields.specs.Fields.{fieldsOf}
 use Rattle.text_fields.proofs.FieldSpelling.{fields-sound, fields-complete}
-use Rattle.form.specs.Compare.{folded}
 use Rattle.form.specs.Reading.{Line, free, bad, keyLine, dataLine, byFirst, byFields, lineAs}
 use Rattle.shown_spelling.proofs.BareBytes.{all-map}
 use Rattle.shown_spelling.proofs.FileSpelling.{spaces-spell}
+use Rattle.law.specs.Words.{folded}
 
 space-permitted : (b : ℕ) → isSpace b ≡ true → permitted b ≡ true
 unfolding permitted

@@ -12,7 +12,7 @@ use Rattle.law.specs.Fields.{Field, field}
 use Rattle.law.specs.Values.{Rec}
 use Rattle.form.specs.Values.{good}
 use Rattle.law.specs.Sections.{Shape, header, outline, component, keepout, listing, placements}
-use Rattle.law.specs.Words.{propWord, sameBytes}
+use Rattle.law.specs.Words.{propWord, sameBytes, folded}
 use Rattle.law.specs.Kinds as role
 use Rattle.law.specs.Kinds.{kindAt, sectionOf, Role, unknown, roleIn, roleOf}
 use Rattle.law.specs.Layouts.{Front, openWord, closeWord}
@@ -56,7 +56,7 @@ props-role placements h = absurd (false≢true h)
 after-prop : (fs gs : List Field) → afterProp fs ≡ good gs → isProp fs ≡ true
 after-prop [] gs e = absurd (refused-good e)
 after-prop (field true s ∷ fs) gs e = absurd (refused-good e)
-after-prop (field false s ∷ fs) gs e = cond-good 5 (sameBytes propWord s) e .0
+after-prop (field false s ∷ fs) gs e = cond-good 5 (sameBytes propWord (folded s)) e .0
 
 -- the role of a kind that a data line can have
 record OfData (a : Role) (b : Bool) : Type 0 where

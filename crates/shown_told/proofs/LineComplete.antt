@@ -8,7 +8,7 @@ use native.Mathlib.Omega.{arith}
 use lib.Dec.{eqb}
 use lib.IntN.{ℤ}
 use borrow.Author.Tests.{not-true}
-use Rattle.basics.proofs.Bytes.{bytes-true}
+use Rattle.basics.proofs.Bytes.{bytes-true, bytes-same}
 use Rattle.basics.proofs.Bools.{both, not-both}
 use Rattle.law.specs.Fields.{Field, field}
 use Rattle.law.specs.Lines.{Free}
@@ -22,7 +22,7 @@ use Rattle.form.specs.Values.{good}
 use Rattle.law.specs.Sections.{SectionForm, Shape, sectionAt}
 use Rattle.law.specs.Kinds as role
 use Rattle.law.specs.Kinds.{sectionOf, Role, unknown, roleOf}
-use Rattle.law.specs.Words.{propWord, sameBytes}
+use Rattle.law.specs.Words.{propWord, sameBytes, folded}
 use Rattle.law.specs.Layouts.{Front, typesOf, openWord, closeWord}
 use Rattle.law.specs.Fits.{under, wellFormed, WellFormed}
 use Rattle.form.specs.Reading.{readFields, dataLine, keyLine, lineAs, keywordOf}
@@ -52,6 +52,8 @@ use Rattle.shown_spelling.proofs.KeywordLaws.{IsSection, keyword-at, section-na
 use Rattle.shown_told.specs.Told.{nothing, says, saidAt, ownFields, lineSays}
 use Rattle.shown_told.proofs.Fronts.{frontAt, isData, front-is, types-laid, stands-known, integerFirst, point-labelled}
 use Rattle.shown_told.proofs.FreeLines.{free-line}
+use Rattle.law.specs.WordSpelling.{AnyCase, same, small}
+use Rattle.shown_spelling.proofs.WordSpelling.{case-folds, any-case}
 
 -- A record that moves a state may stand there and is well formed
 pub record Stood (v : Rules) (st : State) (r : Rec) : Type 0 where
@@ -68,11 +70,14 @@ advanced v st t r h = go (mayStand v st (r .kind)) (wellFormed (under v (typeAt 
     go false w i f e = let z : _≡_ {A = ℕ} 0 1 = cc in absurd (omega arith)
 
 -- PROP is no integer, so a point's line does not begin with it
-prop-no-integer : {z : ℤ} (s : List ℕ) → SpellsInteger z s → sameBytes propWord s ≡ true → ⊥
+prop-no-integer : {z : ℤ} {s : List ℕ} → SpellsInteger z s → AnyCase propWord s → ⊥
 unfolding readInteger unsigned digitHere
-prop-no-integer {z} s r h =
-    let e : s ≡ propWord = sym (bytes-true propWord s h) in
-    let i : readInteger propWord ≡ Whole (record { 0 = z }) = integer-complete (rw e at r) in
+prop-no-integer {z} r (same {s = s} h m) =
+    let i : readInteger (80 ∷ s) ≡ Whole (record { 0 = z }) = integer-complete r in
+    let y : _≡_ {A = ℕ} 0 1 = cc in
+    omega arith
+prop-no-integer {z} r (small {s = s} h m) =
+    let i : readInteger (112 ∷ s) ≡ Whole (record { 0 = z }) = integer-complete r in
     let y : _≡_ {A = ℕ} 0 1 = cc in
     omega arith
 
@@ -80,10 +85,10 @@ label-not-prop : {c : Context} {ts : List FieldType} {vs : List Value} {fs : Lis
 label-not-prop noFields h = absurd (false≢true h)
 label-not-prop (more (asText e) q) h = absurd (false≢true h)
 label-not-prop (more (asDate r) q) h = absurd (false≢true h)
-label-not-prop (more (asInteger {s = s} r) q) h = go (sameBytes propWord s) refl
+label-not-prop (more (asInteger {s = s} r) q) h = go (sameBytes propWord (folded s)) refl
   where
-    go : (b : Bool) → sameBytes propWord s ≡ b → b ≡ false
-    go true e = absurd (prop-no-integer s r e)
+    go : (b : Bool) → sameBytes propWord (folded s) ≡ b → b ≡ false
+    go true e = absurd (prop-no-integer r (any-case (bytes-true propWord (folded s) e)))
     go false e = refl
 label-not-prop (more (asNumber r e) q) h = absurd (false≢true h)
 label-not-prop (more (asWord r) q) h = absurd (false≢true h)
@@ -173,10 +178,10 @@ module _ (v : Rules) (r : Rec) where
         at-point : its ≡ role.point → isProp fs ≡ false
         at-point i = label-not-prop (values-sound (typesOf v (r .kind)) fs reads) (point-labelled v (r .kind) i)
 
-    prop-says : its ≡ role.prop → (w : List ℕ) → sameBytes propWord w ≡ true → lineAs l ≡ dataLine (field false w ∷ fs) → lineSays v used st l ≡ says r t
-    prop-says e w h = data-says (field false w ∷ fs) (place-kind st (sameBytes propWord w) m (rw e) (λ i. h) not-point) (rw e)
+    prop-says : its ≡ role.prop → (w : List ℕ) → AnyCase propWord w → lineAs l ≡ dataLine (field false w ∷ fs) → lineSays v used st l ≡ says r t
+    prop-says e w h = data-says (field false w ∷ fs) (place-kind st (sameBytes propWord (folded w)) m (rw e) (λ i. bytes-same propWord (folded w) (sym (case-folds h))) not-point) (rw e)
       where
-        not-point : its ≡ role.point → sameBytes propWord w ≡ false
+        not-point : its ≡ role.point → sameBytes propWord (folded w) ≡ false
         not-point i = let z : _≡_ {A = ℕ} 0 1 = cc in absurd (omega arith)
 
     role-says : (a : Role) → its ≡ a → Looks (frontAt a (sectionOf v (r .kind))) fs (lineAs l) → lineSays v used st l ≡ says r t

@@ -14,17 +14,17 @@ use Rattle.basics.proofs.Lists.{all-sound, all-complete}
 use Rattle.text_fields.specs.Fields.{fieldsOf}
 use Rattle.text_fields.proofs.FieldSpelling.{fields-sound, fields-complete}
 use Rattle.form.specs.Values.{good}
-use Rattle.law.specs.Words.{propWord, sameBytes}
-use Rattle.form.specs.Compare.{folded}
+use Rattle.law.specs.Words.{propWord, sameBytes, folded}
 use Rattle.law.specs.Layouts.{Front, keyword, prop, plain}
 use Rattle.form.specs.Reading.{Line, free, bad, keyLine, dataLine, byFirst, byFields, lineAs, after}
 use Rattle.basics.proofs.Bytes.{bytes-true, bytes-same}
 use Rattle.law.specs.RecordSpelling.{isData}
 use Rattle.shown_spelling.proofs.Logic.{refused-good, cond-good}
 use Rattle.shown_spelling.proofs.LineSpelling.{begins-cons}
-use Rattle.shown_spelling.proofs.WordSpelling.{case-folds, folds-case}
+use Rattle.shown_spelling.proofs.WordSpelling.{case-folds, any-case}
 use Rattle.shown_told.proofs.FreeLines.{free-line, line-free}
 use Rattle.law.specs.LineFaults.{Fronted, withKeyword, withProp, asData, HasFields}
+use Rattle.law.specs.WordSpelling.{AnyCase, same, small}
 
 -- what a line's answer says of it
 abbrev pub Seen : List ℕ → Line → Type 0
@@ -76,14 +76,15 @@ line-seen l = go (begins 35 l) refl (allOf permitted l) refl (fieldsOf l) refl
     go false h false i o e = inl (refl, λ a. false≢true (sym i ∙ all-complete permitted a))
 
 -- Fronts
-prop-not-key : (p : List ℕ) → sameBytes propWord p ≡ true → begins 46 p ≡ false
+prop-not-key : {p : List ℕ} → AnyCase propWord p → begins 46 p ≡ false
 unfolding begins
-prop-not-key p h = rw (sym (bytes-true propWord p h))
+prop-not-key (same h m) = refl
+prop-not-key (small h m) = refl
 
 pub fronted-after : {f : Front} {fs gs : List Field} → Fronted f fs gs → after f (byFirst fs) ≡ good gs
 unfolding begins folded isData
 fronted-after (withKeyword {k} {w} m) = rw (case-folds m, bytes-same (46 ∷ k) (46 ∷ k) refl)
-fronted-after (withProp {p} h) = rw (prop-not-key p h, h)
+fronted-after (withProp h) = rw (prop-not-key h, case-folds h, bytes-same propWord propWord refl)
 fronted-after (asData {gs} h) = go gs h
   where
     go : (gs : List Field) → isData gs ≡ true → after plain (byFirst gs) ≡ good gs
@@ -106,12 +107,12 @@ after-fronted f (field false s ∷ fs) gs e = go f (begins 46 s) refl e
         let x : 46 ∷ k ≡ 46 ∷ folded (c .0) = bytes-true (46 ∷ k) (folded s) (w .0) ∙ ap folded (c .1) in
         let y : k ≡ folded (c .0) = cc in
         let z : gs ≡ fs = cc (w .1) in
-        rw (c .1, z, y) (withKeyword (folds-case (c .0)))
+        rw (c .1, z) (withKeyword (any-case y))
     go (keyword k) false h e = absurd (refused-good e)
     go prop true h e = absurd (refused-good e)
     go prop false h e =
-        let w = cond-good 5 (sameBytes propWord s) e in
+        let w = cond-good 5 (sameBytes propWord (folded s)) e in
         let z : gs ≡ fs = cc (w .1) in
-        rw z (withProp (w .0))
+        rw z (withProp (any-case (bytes-true propWord (folded s) (w .0))))
     go plain true h e = absurd (refused-good e)
     go plain false h e = let z : gs ≡ field false s ∷ fs = cc in rw z (asData {gs = field false s ∷ fs} (rw h))

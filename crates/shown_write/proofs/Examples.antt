@@ -11,12 +11,12 @@ use Rattle.law.specs.Bytes.{permitted, allOf, begins, ascii}
 use Rattle.law.specs.Dates.{datePieces, isTwo, fitsIn, isDate}
 use Rattle.law.specs.Printing.{numeralOf, decimalsOf, magnitudeOf, signOf, printed}
 use Rattle.law.specs.Values.{Value, number, word, text, Rec}
-use Rattle.law.specs.Words.{wordsOf, sameBytes, wordAt}
+use Rattle.law.specs.Words.{wordsOf, sameBytes, wordAt, named, isIn, folded}
 use Rattle.law.specs.Sections.{sectionNames, sections}
 use Rattle.law.specs.Kinds.{sectionOf, lineOf, roleOf}
 use Rattle.law.specs.Layouts.{layoutOf, typesOf}
 use Rattle.form_layouts.specs.Letters.{isKind}
-use Rattle.law.specs.Fits.{within, meaning, barred, isEmpty, goodText, fits, fitsAll, wellFormed}
+use Rattle.law.specs.Fits.{within, meaning, barred, isEmpty, goodText, fits, fitsAll, wellFormed, isName}
 use Rattle.law.specs.declared.Rules.the-variants.{Idf3}
 use Rattle.law.specs.Canonical.{needsQuotes, canonicalField, canonicalFields, written, joined, canonicalLine, canonicalRecord, canonicalText}
 use Rattle.law.specs.Rows.{none, aNumber, aWord, aDate, aText, RowsSay}
@@ -78,7 +78,7 @@ pub writes :
     × (textOf Idf3 lent (wholeRows (header 1 0 ++ component 19 20)) ≡ headerText ++ componentText)
     × (writeReply (header 1 0 ++ component 19 20) lent 200 ≡ reply 0 0 158)
     × (writeReply (header 1 0 ++ (component 19 20 ++ component 20 19)) lent 255 ≡ reply 0 0 255)
-unfolding writeReply writeText textOf lineText canonicalRecord canonicalLine canonicalFields canonicalField written joined needsQuotes isEmpty allOf begins permitted printed signOf magnitudeOf numeralOf decimalsOf wordsOf wordAt layoutOf typesOf sectionOf lineOf roleOf sections sectionNames isKind wholeRows chunks writable carries rowStep twice namedIn namesIt sameNames sameTexts sameBytes rowFits fieldsFit allZero rangeFits liesIn integerFits wordFits fits within goodText meaning barred isDate fitsIn isTwo datePieces stepped mayStand moved mayOpen after shapeOf manyLoops loopAfter eqZ valuesIn
+unfolding writeReply writeText textOf lineText canonicalRecord canonicalLine canonicalFields canonicalField written joined needsQuotes isEmpty allOf begins permitted printed signOf magnitudeOf numeralOf decimalsOf wordsOf wordAt layoutOf typesOf sectionOf lineOf roleOf sections sectionNames isKind wholeRows chunks writable carries rowStep twice namedIn namesIt sameNames sameTexts sameBytes rowFits fieldsFit allZero rangeFits liesIn integerFits wordFits fits within goodText meaning isName named isIn folded barred isDate fitsIn isTwo datePieces stepped mayStand moved mayOpen after shapeOf manyLoops loopAfter eqZ valuesIn
 writes = (refl, refl, refl, refl, refl, refl, refl, refl)
 
 -- 15: no rows; a header that ends too early; bytes past those lent; a number behind the values; a kind that no section has; a name used twice
@@ -89,7 +89,7 @@ pub refuses :
     × (writeReply (header 1 1) lent 100 ≡ reply 15 0 0)
     × (writeReply (header 1 0 ++ blank 160) lent 100 ≡ reply 15 0 0)
     × (writeReply (header 1 0 ++ (component 19 20 ++ component 19 20)) lent 100 ≡ reply 15 0 0)
-unfolding writeReply writeText textOf lineText canonicalRecord canonicalLine canonicalFields canonicalField written joined needsQuotes isEmpty allOf begins permitted printed signOf magnitudeOf numeralOf decimalsOf wordsOf wordAt layoutOf typesOf sectionOf lineOf roleOf sections sectionNames isKind wholeRows chunks writable carries rowStep twice namedIn namesIt sameNames sameTexts sameBytes rowFits fieldsFit allZero rangeFits liesIn integerFits wordFits fits within goodText meaning barred isDate fitsIn isTwo datePieces stepped mayStand moved mayOpen after shapeOf manyLoops loopAfter eqZ valuesIn
+unfolding writeReply writeText textOf lineText canonicalRecord canonicalLine canonicalFields canonicalField written joined needsQuotes isEmpty allOf begins permitted printed signOf magnitudeOf numeralOf decimalsOf wordsOf wordAt layoutOf typesOf sectionOf lineOf roleOf sections sectionNames isKind wholeRows chunks writable carries rowStep twice namedIn namesIt sameNames sameTexts sameBytes rowFits fieldsFit allZero rangeFits liesIn integerFits wordFits fits within goodText meaning isName named isIn folded barred isDate fitsIn isTwo datePieces stepped mayStand moved mayOpen after shapeOf manyLoops loopAfter eqZ valuesIn
 refuses = (refl, refl, refl, refl, refl, refl)
 
 abbrev of : ℕ → List Value → Rec
@@ -100,7 +100,7 @@ library = of 10 [] ∷ of 11 (word 2 ∷ number (pos 300_000) ∷ text (ascii "p
 
 -- the rows of the header say this list, and its text is within the limit
 pub says : RowsSay lent library (header 1 0)
-unfolding advance wellFormed fitsAll fits within goodText meaning barred allOf permitted sameBytes wordsOf wordAt isEmpty isDate fitsIn isTwo datePieces mayOpen after shapeOf manyLoops namesAComponent layoutOf typesOf sectionOf lineOf roleOf sections
+unfolding advance wellFormed fitsAll fits within goodText meaning isName named isIn folded barred allOf permitted sameBytes wordsOf wordAt isEmpty isDate fitsIn isTwo datePieces mayOpen after shapeOf manyLoops namesAComponent layoutOf typesOf sectionOf lineOf roleOf sections
 says = record {
   means = rows.row (record { columns = []; left = 9; is = refl; ten = refl; means = none })
       (rows.row (record { columns = _; left = 2; is = refl; ten = refl; means = aWord (aNumber refl (aText {a = 20} {l = 1} (omega arith) (aDate {a = 0} {l = 19} (omega arith) (aNumber refl none)))) })

@@ -11,7 +11,6 @@ use Rattle.law.specs.Bytes.{permitted, allOf, begins}
 use Rattle.law.specs.Fields.{Field, field}
 use Rattle.text_fields.specs.FirstField.{fieldOf}
 use Rattle.text_fields.specs.Fields.{fieldsOf}
-use Rattle.form.specs.Compare.{folded}
 use Rattle.law.specs.Kinds.{roleOf}
 use Rattle.form.specs.Reading.{free, bad, keyLine, dataLine, byFirst, byFields, lineAs}
 use Rattle.law.specs.Layouts.{typesOf}
@@ -26,6 +25,7 @@ use Rattle.order.specs.Automaton.{roleNumber, mayStand, typeAt}
 use Rattle.order.specs.declared.State.{State}
 use Rattle.walk.specs.declared.JudgedLine.{JudgedLine}
 use Rattle.walk.specs.Judging.{refusedBy, freeBy, filledBy, ofKind, dataBy, judgedBy, judged}
+use Rattle.law.specs.Words.{folded}
 
 -- a line by itself is refused with 3 or 4
 abbrev Numbered : LineKind → Type 0

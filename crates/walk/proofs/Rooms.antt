@@ -16,8 +16,7 @@ use Rattle.text_fields.specs.declared.FieldAnswer.{FieldAnswer}
 use Rattle.text_fields.specs.declared.FieldAnswer.the-variants.{Nothing, Got, Broken}
 use Rattle.text_fields.proofs.Bounds.{Bounded, bounded}
 use Rattle.law.specs.Sections.{sectionNames, sections}
-use Rattle.law.specs.Words.{endWord, sameBytes}
-use Rattle.form.specs.Compare.{folded}
+use Rattle.law.specs.Words.{endWord, sameBytes, folded}
 use Rattle.law.specs.Kinds.{sectionOf, unknown, roleOf, lastKind}
 use Rattle.form.specs.Reading.{Line, free, bad, keyLine, dataLine, byFirst, byFields, lineAs, keyFrom, keyBy, keywordOf}
 use Rattle.law.specs.declared.Rules.{Rules}

@@ -33,7 +33,8 @@ use Rattle.law.specs.declared.Limit.{Limit}
 use Rattle.law.specs.declared.Limit.the-variants.{Length as L, NotBelow as L0, Above as Lp, Included as A, Rotation as R, Version as Ver}
 use Rattle.law.specs.declared.Texts.{Texts}
 use Rattle.law.specs.declared.FieldType.{FieldType}
-use Rattle.basics.proofs.Meanings.{itself}
+use Rattle.basics.proofs.Meanings.{meaning-written}
+use Rattle.write_texts.specs.Meant.{meantText}
 use Rattle.law.specs.declared.FieldType.the-variants.{Text as T, Date as D, Integer as I, Number as N, Word as W}
 use Rattle.form_words.proofs.RowLaws.{word-held}
 use Rattle.law.specs.Canonical.{needsQuotes, versionText, printedNumber, canonicalField, written}
@@ -194,8 +195,11 @@ module _ (bytes : List ℕ) (a l : ℤ) (h : liesIn (length bytes) a l ≡ true)
   pub date-is : take (p + n - p) (drop p bytes) ≡ textAt bytes a l
   date-is = part-is
 
-  pub text-is : (k : Texts) → written (field (needsQuotes (take (p + n - p) (drop p bytes))) (take (p + n - p) (drop p bytes))) ≡ partText k bytes a l
-  text-is k = rw (itself (T k) (textAt bytes a l)) (rw part-is)
+  pub text-long : (k : Texts) (x : ℕ) → x ≡ length (written (field (needsQuotes (take (p + n - p) (drop p bytes))) (take (p + n - p) (drop p bytes)))) → x ≡ length (partText k bytes a l)
+  text-long k x e = e ∙ rw part-is (meaning-written (T k) (textAt bytes a l))
+
+  pub text-is : (k : Texts) → meantText k (take (p + n - p) (drop p bytes)) ≡ partText k bytes a l
+  text-is k = ap (λ (s : List ℕ). meantText k s) part-is
 
 text-length : (bytes : List ℕ) (a l : ℤ) → liesIn (length bytes) a l ≡ true → length (textAt bytes a l) ≡ natAbs l
 text-length bytes a l h = omega (arith, length-take (natAbs l) (drop (natAbs a) bytes), length-drop (natAbs a) bytes, lies-ends (length bytes) a l h)

@@ -10,16 +10,15 @@ use Rattle.law.specs.Bytes.{ascii}
 use Rattle.law.specs.Words.{propWord}
 use Rattle.form_layouts.specs.Letters.{widthOf}
 use Rattle.form_words.specs.Padded.{trimmed, noKeyword, nameRow, closingRow}
-use Rattle.law.specs.Fits.{under, isEmpty, meaning}
+use Rattle.law.specs.Fits.{under, isEmpty}
 use Rattle.law.specs.declared.Rules.{Rules}
 use Rattle.law.specs.declared.Context.{Context}
 use Rattle.law.specs.declared.FileType.the-variants.{Library}
-use Rattle.law.specs.Fields.{field}
 use Rattle.law.specs.declared.Texts.{Texts}
 use Rattle.law.specs.declared.FieldType.{FieldType}
-use Rattle.law.specs.declared.FieldType.the-variants.{Text}
 use Rattle.rows_texts.specs.Texts.{textAt}
-use Rattle.law.specs.Canonical.{needsQuotes, canonicalField, canonicalRecord, written}
+use Rattle.write_texts.specs.Meant.{meantText}
+use Rattle.law.specs.Canonical.{canonicalField, canonicalRecord, written}
 use Rattle.law.specs.Answers.{limit}
 use Rattle.write_columns.specs.Records.{valueIn, recordIn}
 
@@ -55,7 +54,7 @@ frontText role s n = cond (isEmpty (markOf role)) [] (markOf role ++ (trimmed (n
 
 -- what a text means at its field, with the quotes that it needs
 abbrev pub partText : Texts → List ℕ → ℤ → ℤ → List ℕ
-partText k bytes a b = written (field (needsQuotes (meaning (Text k) (textAt bytes a b))) (meaning (Text k) (textAt bytes a b)))
+partText k bytes a b = meantText k (textAt bytes a b)
 
 -- a field's bytes
 unfoldable pub valueText : Rules → FieldType → List ℕ → ℤ → ℤ → List ℕ

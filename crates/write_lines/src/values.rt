@@ -16,7 +16,7 @@ ghost use Rattle.rows_texts.specs.Texts.{textAt};
 ghost use Rattle.write_columns.specs.Columns.{liesIn, fieldFits};
 ghost use Rattle.write_lines.specs.LineText.{anywhere, partText, valueText, endedText};
 
-// How many bytes a text takes, with its quotes.
+// How many bytes a text takes, with its quotes: as many as what it means.
 fn part_len(k: Texts, bytes: &[u8], start: i64, len: i64) -> usize
     requires { ⌜ liesIn (length (now bytes)) start len ≡ true ⌝ }
     ensures { λ r. ⌜ r ≡ length (partText k (now (bytes .entry)) start len) ⌝ }
@@ -33,7 +33,7 @@ fn put_part(out: &mut [u8], at: usize, k: Texts, bytes: &[u8], start: i64, len: 
 {
     let a = number::magnitude(start) as usize;
     let n = number::magnitude(len) as usize;
-    write_texts::put_text(out, at, &bytes[a..a + n])
+    write_texts::put_meaning(out, at, k, &bytes[a..a + n])
 }
 
 // A date.

@@ -14,9 +14,16 @@ use Rattle.law.specs.Bytes.{allOf, begins}
 use Rattle.law.specs.Fields.{field}
 use Rattle.number_print.specs.Printing.{Wrote}
 use Rattle.number_print.proofs.PrintLaws.{wrote-length, wrote-more}
-use Rattle.law.specs.Fits.{isEmpty}
+use Rattle.law.specs.Fits.{isEmpty, isName}
+use Rattle.law.specs.Words.{named, isIn, capital, folded}
+use Rattle.law.specs.declared.Texts.{Texts}
+use Rattle.law.specs.declared.FieldType.the-variants.{Text}
+use Rattle.basics.specs.Letters.{cased}
+use Rattle.basics.proofs.Letters.{folded-long, folded-at}
+use Rattle.basics.proofs.Meanings.{meaning-cased, name-bare}
 use Rattle.form_words.specs.Padded.{trimmed}
 use Rattle.law.specs.Canonical.{noSpace, needsQuotes, written}
+use Rattle.write_texts.specs.Meant.{meantText}
 
 -- Bytes, one after the other
 pub copy-start : (o s : List ℕ) (at : ℕ) → Wrote o o at (at + 0) (take 0 s)
@@ -32,6 +39,17 @@ copy-end o p s at i h w = rw (take-all i s h) at w
 
 pub copy-room : (o p s : List ℕ) (at i : ℕ) → at + length s ≤ length o → i < length s → Wrote o p at (at + i) (take i s) → at + i < length p
 copy-room o p s at i h k w = omega (arith, wrote-length w)
+
+-- letters in capitals
+module _ (o p s : List ℕ) (at i : ℕ) (w : Wrote o p at (at + i) (take i (folded s))) where
+  pub capitals-more : (b : ℕ) → b ≡ capital (getD s i 0) → i < length s → Wrote o (set p (at + i) b) at (at + (i + 1)) (take (i + 1) (folded s))
+  capitals-more b e h = rw (e ∙ sym (folded-at s i)) (copy-more o p (folded s) at i (omega (arith, folded-long s)) w)
+
+  pub capitals-end : length s ≤ i → Wrote o p at (at + i) (folded s)
+  capitals-end h = copy-end o p (folded s) at i (omega (arith, folded-long s)) w
+
+  pub capitals-room : at + length s ≤ length o → i < length s → at + i < length p
+  capitals-room h k = copy-room o p (folded s) at i (omega (arith, folded-long s)) (omega (arith, folded-long s)) w
 
 -- Quotes
 module _ (s : List ℕ) (i : ℕ) {g : Bool} (inv : allOf noSpace (drop i s) ≡ g) where
@@ -157,3 +175,31 @@ module _ (row : List ℕ) (n : ℕ) (e : n ≡ length (trimmed row)) where
 
   pub front-wrote : (o p : List ℕ) (at r : ℕ) → Wrote o p at r (take (n - 0) (drop 0 row)) → Wrote o p at r (trimmed row)
   front-wrote o p at r w = rw front-is at w
+
+-- What a text means, by what was found
+module _ (k : Texts) (s : List ℕ) (x : Bool) (i : x ≡ isIn (folded s) (named k)) where
+  e : x ≡ isName (Text k) s
+  unfolding isName
+  e = i
+
+  module _ (h : x ≡ true) where
+    name-text : folded s ≡ meantText k s
+    unfolding cased written
+    name-text = rw (sym (meaning-cased (Text k) s true (sym h ∙ e)), name-bare (Text k) s (sym e ∙ h))
+
+    pub name-room : (o : List ℕ) (at : ℕ) → at + length (meantText k s) ≤ length o → at + length s ≤ length o
+    name-room o at l = omega (arith, folded-long s, ap length name-text)
+
+    pub name-put : (o p : List ℕ) (at r : ℕ) → Wrote o p at r (folded s) → Wrote o p at r (meantText k s)
+    name-put o p at r w = rw name-text at w
+
+  module _ (h : x ≡ false) where
+    own-text : written (field (needsQuotes s) s) ≡ meantText k s
+    unfolding cased
+    own-text = ap (λ (u : List ℕ). written (field (needsQuotes u) u)) (meaning-cased (Text k) s false (sym h ∙ e))
+
+    pub own-room : (o : List ℕ) (at : ℕ) → at + length (meantText k s) ≤ length o → at + length (written (field (needsQuotes s) s)) ≤ length o
+    own-room o at l = omega (arith, ap length own-text)
+
+    pub own-put : (o p : List ℕ) (at r : ℕ) → Wrote o p at r (written (field (needsQuotes s) s)) → Wrote o p at r (meantText k s)
+    own-put o p at r w = rw own-text at w

@@ -1,4 +1,5 @@
 // Texts and words as bytes, written into a lent slice from a place on, and the number of bytes that this takes.
+use law::Texts;
 ghost use mathlib.Core.Path.{_≡_};
 ghost use Prim.Native.Nat.{_+_, _≤_};
 ghost use lib.ListN.{length};
@@ -6,7 +7,9 @@ ghost use Rattle.law.specs.Bytes.{allOf};
 ghost use Rattle.law.specs.Fields.{field};
 ghost use Rattle.number_print.specs.Printing.{Wrote};
 ghost use Rattle.form_words.specs.Padded.{trimmed};
+ghost use Rattle.law.specs.Words.{folded};
 ghost use Rattle.law.specs.Canonical.{noSpace, needsQuotes, written};
+ghost use Rattle.write_texts.specs.Meant.{meantText};
 
 // The bytes of a slice.
 pub fn put_bytes(out: &mut [u8], at: usize, s: &[u8]) -> usize
@@ -59,7 +62,7 @@ pub fn text_len(s: &[u8]) -> usize
 }
 
 // A text, with its quotes.
-pub fn put_text(out: &mut [u8], at: usize, s: &[u8]) -> usize
+fn put_text(out: &mut [u8], at: usize, s: &[u8]) -> usize
     requires { ⌜ at + length (written (field (needsQuotes (now s)) (now s))) ≤ length (now out) ⌝ }
     ensures { λ r. ⌜ Wrote (now (out .entry)) (now (out .exit)) at r (written (field (needsQuotes (now (s .entry))) (now (s .entry)))) ⌝ }
 {
@@ -69,6 +72,30 @@ pub fn put_text(out: &mut [u8], at: usize, s: &[u8]) -> usize
         return number_print::put_byte(out, b, 34);
     }
     put_bytes(out, at, s)
+}
+
+// The bytes of a slice, letters in capitals.
+fn put_capitals(out: &mut [u8], at: usize, s: &[u8]) -> usize
+    requires { ⌜ at + length (now s) ≤ length (now out) ⌝ }
+    ensures { λ r. ⌜ Wrote (now (out .entry)) (now (out .exit)) at r (folded (now (s .entry))) ⌝ }
+{
+    let mut i = 0;
+    while i < s.len() {
+        out[at + i] = basics::capital_of(s[i]);
+        i += 1;
+    }
+    at + i
+}
+
+// What a text means, with its quotes: a name in capitals, which needs none.
+pub fn put_meaning(out: &mut [u8], at: usize, k: Texts, s: &[u8]) -> usize
+    requires { ⌜ at + length (meantText k (now s)) ≤ length (now out) ⌝ }
+    ensures { λ r. ⌜ Wrote (now (out .entry)) (now (out .exit)) at r (meantText k (now (s .entry))) ⌝ }
+{
+    if rows_names::is_named(k, s) {
+        return put_capitals(out, at, s);
+    }
+    put_text(out, at, s)
 }
 
 // How many bytes stand before a row's padding.

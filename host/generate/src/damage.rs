@@ -12,12 +12,18 @@ const NUMBERS: &str =
 
 /// Words that belong somewhere, but seldom to where they are put.
 const WORDS: &str =
-    "x TOP BOTTOM BOTH INNER ALL MM THOU TNM mm MCAD mcad ECAD UNOWNED PLACED FIXED PTH \
-    NPTH PROP prop BOARD board PANEL NOREFDES BOARD_FILE PANEL_FILE LIBRARY_FILE .HEADER .NOTES \
+    "x TOP top BOTTOM BOTH INNER Inner ALL MM THOU TNM mm MCAD mcad ECAD UNOWNED PLACED Placed FIXED \
+    PTH NPTH npth PROP prop pRoP BOARD board Board PANEL panel NOREFDES norefdes NoRefDes BOARD_FILE \
+    board_file PANEL_FILE LIBRARY_FILE LIBRARY_file .HEADER .NOTES \
     .END_NOTES .PLACEMENT .END_PLACEMENT .ELECTRICAL .END_ELECTRICAL .END_MECHANICAL .5x . # #x";
 
 /// Quoted fields, good and broken.
-const QUOTED: &str = r#""TOP" "0" "" "BOARD" "PROP" ".HEADER" " a"b "a"b ""a"""#;
+const QUOTED: &str =
+    r#""TOP" "top" "mcad" "mm" "0" "" "BOARD" "board" "PROP" "prop" ".HEADER" " a"b "a"b ""a"""#;
+
+/// Names, and texts that look like them, for the place of a reference.
+const REFERENCES: &str =
+    r#"BOARD board Board "board" boards PANEL panel NOREFDES norefdes "NoRefDes" norefde"#;
 
 /// Bytes at the edge of a byte class.
 const EDGE_BYTES: &[u8] = b"\x00\x09\x0A\x0B\x0D\x1F !\"#.~\x7F\x80\xA0\xFF019-+Aa";
@@ -33,7 +39,7 @@ pub fn damaged(random: &mut Random, file: &[u8]) -> Vec<u8> {
 
 fn damage(random: &mut Random, file: &mut Vec<u8>) {
     let at = random.below(file.len());
-    match random.below(16) {
+    match random.below(19) {
         0 => drop(file.splice(at..end(at, 1, file), [byte(random)])),
         1 => file.insert(at, byte(random)),
         2 => drop(file.drain(at..end(at, 1, file))),
@@ -46,6 +52,9 @@ fn damage(random: &mut Random, file: &mut Vec<u8>) {
         9 => copy_line(random, file, at),
         10 => double_lines(file, section_at(file, at)),
         11 | 12 => extend_field(random, file, at),
+        13 => turn_letter(file, at),
+        14 => quote_word(file, at),
+        15 => name_reference(random, file, at),
         _ => replace_field(random, file, at),
     }
 }
@@ -142,6 +151,43 @@ fn replace_field(random: &mut Random, file: &mut Vec<u8>, at: usize) {
     let list = random.pick(&[NUMBERS, NUMBERS, WORDS, QUOTED]);
     let tokens: Vec<&str> = list.split(' ').collect();
     file.splice(field_at(file, at), random.pick(&tokens).bytes());
+}
+
+/// Makes the next letter from a byte on small if it is a capital, and a capital if it is small.
+fn turn_letter(file: &mut [u8], at: usize) {
+    if let Some(letter) = file[at..].iter_mut().find(|byte| byte.is_ascii_alphabetic()) {
+        *letter ^= b'a' ^ b'A';
+    }
+}
+
+/// Puts the next field from a byte on that begins with a letter into quotes, in small letters.
+fn quote_word(file: &mut Vec<u8>, at: usize) {
+    let Some(letter) = file[at..].iter().position(u8::is_ascii_alphabetic) else {
+        return;
+    };
+    let field = field_at(file, at + letter);
+    let quoted = [b"\"", &file[field.clone()], b"\""].concat().to_ascii_lowercase();
+    file.splice(field, quoted);
+}
+
+/// Puts a name, or what looks like one, to the end of the next line of three fields from a byte on.
+fn name_reference(random: &mut Random, file: &mut Vec<u8>, at: usize) {
+    let mut line = line_at(file, at);
+    while !has_three_fields(&file[line.clone()]) {
+        if line.end >= file.len() {
+            return;
+        }
+        line = line_at(file, line.end + 1);
+    }
+    let names: Vec<&str> = REFERENCES.split(' ').collect();
+    let last = file[line.clone()].iter().rposition(|byte| !b" \r".contains(byte));
+    let field = field_at(file, last.map_or(line.start, |last| line.start + last));
+    file.splice(field, random.pick(&names).bytes());
+}
+
+/// Whether spaces part a line into three, quotes not looked at.
+fn has_three_fields(line: &[u8]) -> bool {
+    line.split(|&byte| byte == b' ').filter(|part| !part.is_empty()).count() == 3
 }
 
 /// Puts a sign, a digit or a sixth decimal to the field around a byte.

@@ -2,6 +2,7 @@
 
 use std::collections::HashSet;
 
+use crate::letters::{Capitals, REFERENCES};
 use crate::pen::Pen;
 use crate::random::Random;
 use crate::sections::{area, component, header, holes, notes, outline, placement, section};
@@ -12,17 +13,29 @@ type Entry = (Vec<u8>, Vec<u8>, bool);
 
 /// An acceptable board of about so many bytes.
 pub fn board(random: &mut Random, size: usize) -> Vec<u8> {
-    placed_file(random, false, size, any_placement)
+    placed_file(random, false, size, any_placement).spelled(random)
 }
 
 /// An acceptable panel of about so many bytes.
 pub fn panel(random: &mut Random, size: usize) -> Vec<u8> {
-    placed_file(random, true, size, any_placement)
+    placed_file(random, true, size, any_placement).spelled(random)
 }
 
 /// An acceptable library of about so many bytes.
 pub fn library(random: &mut Random, size: usize) -> Vec<u8> {
-    library_with_entries(random, size).0
+    library_with_entries(random, size).0.spelled(random)
+}
+
+/// An acceptable file of about so many bytes, three times over: with its words and names in
+/// capitals, in small letters, and in mixed ones.
+pub fn lettered(random: &mut Random, size: usize) -> [Vec<u8>; 3] {
+    let capitals = match random.below(3) {
+        0 => placed_file(random, false, size, any_placement),
+        1 => placed_file(random, true, size, any_placement),
+        _ => library_with_entries(random, size).0,
+    };
+    let (small, mixed) = (capitals.in_small_letters(), capitals.in_mixed_letters(random));
+    [capitals.file, small, mixed]
 }
 
 /// A board or panel and a library, of about so many bytes each, that has what is placed; once in
@@ -37,7 +50,7 @@ pub fn matched(random: &mut Random, size: usize) -> (Vec<u8>, Vec<u8>) {
             place_entry(pen, entry, panel, spoilt);
         }
     });
-    (board, library)
+    (board.spelled(random), library.spelled(random))
 }
 
 /// A board or panel: middle sections up to some size, then placements up to the whole.
@@ -46,7 +59,7 @@ fn placed_file(
     panel: bool,
     size: usize,
     place: impl Fn(&mut Pen, bool),
-) -> Vec<u8> {
+) -> Capitals {
     let mut pen = Pen::new(random);
     header(&mut pen, if panel { "PANEL_FILE" } else { "BOARD_FILE" });
     outline(&mut pen, if panel { "PANEL_OUTLINE" } else { "BOARD_OUTLINE" });
@@ -102,16 +115,16 @@ fn place_entry(pen: &mut Pen, (geometry, part, mechanical): &Entry, panel: bool,
     placement(pen, geometry, part, &reference);
 }
 
-/// A reference that may stand: BOARD in panels only.
+/// A reference that may stand: BOARD in panels only, whatever its letter case.
 fn reference(pen: &mut Pen, panel: bool) -> Vec<u8> {
-    match values::text(pen.random) {
-        text if !panel && text == b"BOARD" => b"U1".to_vec(),
+    match values::text_or_name(pen.random, REFERENCES) {
+        text if !panel && text.eq_ignore_ascii_case(b"BOARD") => b"U1".to_vec(),
         text => text,
     }
 }
 
 /// A library and what it holds; no two entries share both geometry and part.
-fn library_with_entries(random: &mut Random, size: usize) -> (Vec<u8>, Vec<Entry>) {
+fn library_with_entries(random: &mut Random, size: usize) -> (Capitals, Vec<Entry>) {
     let mut pen = Pen::new(random);
     let mut used = HashSet::new();
     let mut entries = Vec::new();
@@ -130,13 +143,13 @@ fn library_with_entries(random: &mut Random, size: usize) -> (Vec<u8>, Vec<Entry
 }
 
 /// The file, perhaps without the end of its last line.
-fn finish(mut pen: Pen) -> Vec<u8> {
+fn finish(mut pen: Pen) -> Capitals {
     pen.free_lines();
-    let mut out = pen.out;
-    let length = out.strip_suffix(b"\r\n").or(out.strip_suffix(b"\n")).map_or(0, <[u8]>::len);
-    let ends_bare = length > 0 && out[length - 1] != b'\n';
+    let mut file = pen.out;
+    let length = file.strip_suffix(b"\r\n").or(file.strip_suffix(b"\n")).map_or(0, <[u8]>::len);
+    let ends_bare = length > 0 && file[length - 1] != b'\n';
     if ends_bare && pen.random.one_in(8) {
-        out.truncate(length);
+        file.truncate(length);
     }
-    out
+    Capitals { file, words: pen.words }
 }

@@ -6,13 +6,14 @@
 
 mod damage;
 mod files;
+mod letters;
 mod pen;
 mod random;
 mod sections;
 mod values;
 
 pub use damage::{changed, damaged};
-pub use files::{board, library, matched, panel};
+pub use files::{board, lettered, library, matched, panel};
 pub use random::Random;
 
 /// A small file by its number: those of even numbers are whole, the others damaged.

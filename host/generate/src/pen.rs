@@ -1,5 +1,7 @@
 //! The pen: lays down lines field by field, each spelled in one of the ways that mean the same.
 
+use std::ops::Range;
+
 use crate::random::Random;
 use crate::values::{self, ONE};
 
@@ -17,6 +19,8 @@ pub struct Pen<'r> {
     pub random: &'r mut Random,
     /// What is written so far.
     pub out: Vec<u8>,
+    /// Where words and names stand in it; they are written in capitals.
+    pub words: Vec<Range<usize>>,
     ends: Ends,
     line: usize,
     first: bool,
@@ -30,7 +34,7 @@ impl<'r> Pen<'r> {
             1 => Ends::Mixed,
             _ => Ends::Plain,
         };
-        Pen { random, out: Vec::new(), ends, line: 0, first: true }
+        Pen { random, out: Vec::new(), words: Vec::new(), ends, line: 0, first: true }
     }
 
     /// Writes a keyword in a mixture of letter case.
@@ -43,10 +47,17 @@ impl<'r> Pen<'r> {
         }
     }
 
-    /// Writes a word as it is.
+    /// Writes a word.
     pub fn word(&mut self, word: &str) {
         self.gap();
-        self.out.extend_from_slice(word.as_bytes());
+        self.bare(word.as_bytes());
+        self.words.push(self.out.len() - word.len()..self.out.len());
+    }
+
+    /// Writes a date.
+    pub fn date(&mut self, date: &str) {
+        self.gap();
+        self.bare(date.as_bytes());
     }
 
     /// Writes one word of a list.
@@ -94,10 +105,19 @@ impl<'r> Pen<'r> {
             || column_one && text[0] == b'#';
         if must || self.random.one_in(4) {
             self.out.push(b'"');
-            self.out.extend_from_slice(text);
+            self.bare(text);
             self.out.push(b'"');
         } else {
-            self.out.extend_from_slice(text);
+            self.bare(text);
+        }
+    }
+
+    /// Writes a text that may be one of some names.
+    pub fn text_or_name(&mut self, text: &[u8], names: &[&str]) {
+        self.text(text);
+        if names.iter().any(|name| name.as_bytes() == text) {
+            let end = self.out.len() - usize::from(self.out.last() == Some(&b'"'));
+            self.words.push(end - text.len()..end);
         }
     }
 
@@ -133,6 +153,10 @@ impl<'r> Pen<'r> {
             }
             self.line_end();
         }
+    }
+
+    fn bare(&mut self, bytes: &[u8]) {
+        self.out.extend_from_slice(bytes);
     }
 
     /// Writes the bytes that end a line.

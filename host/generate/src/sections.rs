@@ -1,5 +1,6 @@
 //! Whole sections, one writer for each form that document 01 gives them.
 
+use crate::letters::{HOLE_PARTS, REFERENCES};
 use crate::pen::Pen;
 use crate::values::{self, ONE};
 
@@ -30,7 +31,7 @@ pub fn header(pen: &mut Pen, file_type: &str) {
         pen.number(3 * ONE);
         pen.any_text();
         let date = values::date(pen.random);
-        pen.word(&date);
+        pen.date(&date);
         let version = pen.random.pick(&[1, 0, -1, 42, 999_999_999, -999_999_999]);
         pen.integer(version);
         pen.end();
@@ -101,7 +102,8 @@ pub fn holes(pen: &mut Pen, size: usize) {
             pen.any_number(true);
             pen.any_number(true);
             pen.one_of(&["PTH", "NPTH"]);
-            pen.any_text();
+            let part = values::text_or_name(pen.random, HOLE_PARTS);
+            pen.text_or_name(&part, HOLE_PARTS);
             pen.any_text();
             pen.one_of(OWNERS);
             pen.end();
@@ -126,7 +128,7 @@ pub fn notes(pen: &mut Pen, size: usize) {
 pub fn placement(pen: &mut Pen, package: &[u8], part: &[u8], reference: &[u8]) {
     pen.text(package);
     pen.text(part);
-    pen.text(reference);
+    pen.text_or_name(reference, REFERENCES);
     pen.end();
     pen.any_number(true);
     pen.any_number(true);

@@ -7,13 +7,17 @@ pub const ONE: i64 = 100_000;
 const LARGEST: i64 = 99_999_999_999;
 
 /// Texts that a reader could take for something else.
-const ODD_TEXTS: [&[u8]; 20] = [
+const ODD_TEXTS: [&[u8]; 24] = [
     b"PROP",
+    b"prop",
     b"BOARD",
     b"board",
+    b"boards",
     b"PANEL",
+    b"panel",
     b"NOREFDES",
     b"norefdes",
+    b"norefde\xC5\xBF",
     b"MM",
     b"TOP",
     b"#1",
@@ -66,6 +70,15 @@ pub fn text(random: &mut Random) -> Vec<u8> {
         1 | 2 => random.pick(&ODD_TEXTS).to_vec(),
         3 => (0..random.below(12)).map(|_| permitted(random)).collect(),
         _ => name(random),
+    }
+}
+
+/// A text, or once in four times one of some names.
+pub fn text_or_name(random: &mut Random, names: &[&str]) -> Vec<u8> {
+    if random.one_in(4) {
+        random.pick(names).into()
+    } else {
+        text(random)
     }
 }
 

@@ -1,9 +1,9 @@
 //! The second reader on generated files: every reply on content occurs, and what it says of a file
 //! agrees with what it says of the file's parts, rows and canonical text.
 
-use std::collections::BTreeSet;
+use std::collections::{BTreeMap, BTreeSet};
 
-use generate::{changed, file, matched, windows_copy, Random};
+use generate::{board, changed, damaged, file, lettered, matched, panel, windows_copy, Random};
 use second::{canon, check, judge, read, rows, same, write, Reader, Reply};
 
 const FILES: u64 = 20_000;
@@ -32,6 +32,91 @@ fn whole_files_end_their_lines_in_each_way() {
     }
     println!("plain {plain}, Windows {windows}, mixed {mixed}");
     assert!(plain > windows + mixed && windows > 500 && mixed > 500);
+}
+
+#[test]
+fn whole_files_spell_their_words_in_each_way() {
+    let (mut capitals, mut small, mut mixed) = (0, 0, 0);
+    for seed in (0..FILES).step_by(2) {
+        let file = file(seed);
+        // Only keywords and comments stand before the file's type.
+        let of_type = file.windows(5).find(|bytes| bytes.eq_ignore_ascii_case(b"_FILE"));
+        match of_type.expect("the type of a whole file") {
+            b"_FILE" => capitals += 1,
+            b"_file" => small += 1,
+            _ => mixed += 1,
+        }
+    }
+    println!("capitals {capitals}, small {small}, mixed {mixed}");
+    assert!(capitals > small + mixed && small > 500 && mixed > 500);
+}
+
+#[test]
+fn whole_files_hold_every_name_and_prop_in_any_letters() {
+    let mut seen = BTreeMap::new();
+    for seed in (0..FILES).step_by(2) {
+        let file = file(seed);
+        for row in rows(&file).expect("a whole file") {
+            let (bytes, known) = match row[0] {
+                143 => (first_field(&file, row[1] as usize), &["PROP"][..]),
+                111 | 131 => (text_at(&row, 5, &file), names(111, 5)),
+                _ => continue,
+            };
+            if let Some(name) =
+                known.iter().find(|name| name.as_bytes().eq_ignore_ascii_case(bytes))
+            {
+                *seen.entry((row[0], *name, name.as_bytes() == bytes)).or_insert(0) += 1;
+            }
+        }
+    }
+    println!("names in capitals and not: {seen:?}");
+    // PROP, three parts of holes, and three references, of which PANEL is a text like others.
+    assert!(seen.len() == 2 * (1 + 3 + 3) && seen.values().all(|&count| count > 20), "{seen:?}");
+}
+
+/// The first field of the line in which a place stands.
+fn first_field(file: &[u8], at: usize) -> &[u8] {
+    let start = file[..at].iter().rposition(|&byte| byte == b'\n').map_or(0, |end| end + 1);
+    file[start..].split(|&byte| byte == b' ').find(|field| !field.is_empty()).unwrap_or(&[])
+}
+
+#[test]
+fn letters_of_words_and_names_change_nothing() {
+    for seed in 0..FILES / 4 {
+        let [capitals, small, mixed] = lettered(&mut Random::new(seed), 900);
+        for other in [small, mixed] {
+            assert!(other.eq_ignore_ascii_case(&capitals), "{seed}");
+            // Rows are places and values, so not one number differs.
+            assert_eq!(rows(&other), rows(&capitals), "{seed}");
+            assert_eq!(same(&capitals, &other), (Reply { number: 0, line: 0, count: 1 }, 0));
+            assert_eq!(canon(&other), canon(&capitals), "{seed}");
+        }
+    }
+}
+
+#[test]
+fn damage_reaches_letters_in_each_way() {
+    let mut seen = BTreeMap::new();
+    for seed in 0..FILES {
+        let mut random = Random::new(seed);
+        let whole = if seed % 2 == 0 { board } else { panel }(&mut random, 400);
+        let hurt = damaged(&mut random, &whole);
+        let reply = check(&hurt);
+        let line = hurt.split(|&byte| byte == b'\n').nth((reply.line as usize).saturating_sub(1));
+        let last = line.and_then(|line| line.split(|&byte| byte == b' ').last()).unwrap_or(&[]);
+        let what = match (reply.number, last) {
+            (0, _) if hurt != whole && hurt.eq_ignore_ascii_case(&whole) => {
+                ["another text", "other letters"][same(&whole, &hurt).0.count as usize]
+            }
+            (9, b"BOARD" | b"\"BOARD\"") => "BOARD in a board",
+            (9, b"board" | b"Board" | b"\"board\"") => "board in other letters",
+            (9, [b'"', b'a'..=b'z', ..]) => "a quoted small word",
+            _ => continue,
+        };
+        *seen.entry(what).or_insert(0) += 1;
+    }
+    println!("{seen:?}");
+    assert!(seen.len() == 5 && seen.values().all(|&count| count > 20), "{seen:?}");
 }
 
 #[test]
@@ -97,14 +182,31 @@ fn text_starts(kind: i64) -> &'static [usize] {
     }
 }
 
-/// Rows with 0 in place of each text's start, and the texts.
-fn meaning<'a>(list: &[[i64; 10]], bytes: &'a [u8]) -> (Vec<[i64; 10]>, Vec<&'a [u8]>) {
+/// The names that mean their capitals where a text of a kind starts in a column, written out likewise.
+fn names(kind: i64, column: usize) -> &'static [&'static str] {
+    match (kind, column) {
+        (111, 5) => &["NOREFDES", "BOARD", "PANEL"],
+        (131, 5) => &["NOREFDES", "BOARD"],
+        _ => &[],
+    }
+}
+
+/// The text whose start stands in a column.
+fn text_at<'a>(row: &[i64; 10], column: usize, bytes: &'a [u8]) -> &'a [u8] {
+    let start = row[column] as usize;
+    &bytes[start..start + row[column + 1] as usize]
+}
+
+/// Rows with 0 in place of each text's start, and what the texts mean.
+fn meaning(list: &[[i64; 10]], bytes: &[u8]) -> (Vec<[i64; 10]>, Vec<Vec<u8>>) {
     let mut texts = Vec::new();
     let bare = list.iter().map(|row| {
         let mut bare = *row;
         for &column in text_starts(row[0]) {
-            let start = row[column] as usize;
-            texts.push(&bytes[start..start + row[column + 1] as usize]);
+            let text = text_at(row, column, bytes);
+            let capitals = text.to_ascii_uppercase();
+            let named = names(row[0], column).iter().any(|name| name.as_bytes() == capitals);
+            texts.push(if named { capitals } else { text.to_vec() });
             bare[column] = 0;
         }
         bare

@@ -145,7 +145,7 @@ fn refused_name<'a>(first: &'a str, second: &'a str, verdict: Verdict) -> &'a st
     }
 }
 
-/// The package, part and reference of a placement that lacks its entry: ` (cc1210 pn-cc1210 C3)`.
+/// The package, part and reference of a placement that lacks its entry, as they are meant: ` (cc1210 pn-cc1210 C3)`.
 fn placement_named(board: &[u8], refusal: Refusal) -> String {
     if refusal.reason != Reason::NoEntry {
         return String::new();
@@ -155,9 +155,6 @@ fn placement_named(board: &[u8], refusal: Refusal) -> String {
     let Some(row) = placements.nth((refusal.count as usize).saturating_sub(1)) else {
         return String::new();
     };
-    let names = [1, 3, 5].map(|column| {
-        let (start, length) = (row[column] as usize, row[column + 1] as usize);
-        printable(&board[start..start + length])
-    });
-    format!(" ({})", names.join(" "))
+    let names = [1, 3, 5].map(|column| quayladle::text(row, column, board).unwrap_or_default());
+    format!(" ({})", names.map(printable).join(" "))
 }

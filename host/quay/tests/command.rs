@@ -95,6 +95,7 @@ fn canonical_text_is_that_of_the_second_reader() {
         "panel_dated.emn",
         "shelf/boards/main_respaced.emn",
         "shelf/boards/main_windows.emn",
+        "shelf/boards/plate_letters.emn",
     ] {
         assert_eq!(Ok(run(&["canon", name]).stdout), second::canon(&sample(name)), "{name}");
     }
@@ -133,6 +134,8 @@ fn same_tells_copies_from_revisions() {
     for (other, verdict, code) in table {
         assert_eq!(said(&format!("same --plain {main} {other}")), (verdict.to_string(), code));
     }
+    let plates = "same --plain shelf/boards/plate.emn shelf/boards/plate_letters.emn";
+    assert_eq!(said(plates), ("0 0 1 0\n".to_string(), 0));
     let (words, _) = said("same shelf/boards/main.emn shelf/boards/main_rev_b.emn");
     assert_eq!(words, "shelf/boards/main.emn, shelf/boards/main_rev_b.emn: not the same\n");
     assert_eq!(said("same board.emn nothing").1, 2);
@@ -147,7 +150,12 @@ fn judge_names_the_placement_that_lacks_its_entry() {
         it is placement 1 (cs13_a pn-cap C1)\n"
     );
     assert_eq!(code, 1);
+    let (words, code) = said("judge shelf/boards/plate_letters.emn shelf/libraries/connectors.emp");
+    assert!(words.ends_with("; it is placement 1 (screw_m3 pn-m3x8 NOREFDES)\n"), "{words}");
+    assert_eq!(code, 1);
     let table = [
+        ("shelf/boards/plate_letters.emn shelf/libraries/hardware.emp", "0 0 3 0\n", 0),
+        ("board_dated.emn library_dated.emp", "0 0 11 0\n", 0),
         ("board_dated.emn shelf/libraries/parts.emp", "0 0 11 0\n", 0),
         ("board_dated.emn shelf/libraries/connectors.emp", "16 0 1 1\n", 1),
         ("board_dated.emn shelf/libraries/parts_broken.emp", "11 38 0 2\n", 1),
@@ -198,8 +206,8 @@ fn a_full_disk_is_told() {
 #[test]
 fn shelf_in_words() {
     let expected = "\
-shelf: 10 IDF files, 52,867 bytes
-       8 whole
+shelf: 13 IDF files, 55,523 bytes
+      11 whole
        2 refused
        1 passed over by name
 
@@ -212,8 +220,10 @@ The same, record by record:
     boards/main_copy.emn: an exact copy, 9,528 bytes
     boards/main_respaced.emn: other bytes, the same records, 5,638 bytes
     boards/main_windows.emn: other bytes, the same records, 9,743 bytes
+  boards/plate.emn: 35 records
+    boards/plate_letters.emn: other bytes, the same records, 1,100 bytes
 
-Keeping the first of each would free 24,909 bytes. Nothing was deleted.
+Keeping the first of each would free 26,009 bytes. Nothing was deleted.
 ";
     let output = run(&["shelf", "shelf"]);
     assert_eq!((text(&output.stdout).as_str(), output.status.code()), (expected, Some(0)));
@@ -227,7 +237,7 @@ fn shelf_in_json() {
     assert_eq!(code, 0);
     assert_eq!(
         (&value["totals"]["whole"], &value["totals"]["bytes_freed"]),
-        (&8.into(), &24909.into())
+        (&11.into(), &26009.into())
     );
     let group = &value["same"][0];
     let others: Vec<&Value> = group["others"].as_array().expect("a list").iter().collect();
@@ -254,7 +264,7 @@ fn shelf_as_a_page() {
     let page = fs::read_to_string(page).expect("a page");
     let file = sample("shelf/boards/main_respaced.emn");
     for part in [
-        "<dt>whole</dt><dd>8</dd>".to_string(),
+        "<dt>whole</dt><dd>11</dd>".to_string(),
         "<td>boards/main_torn.emn</td><td class=\"number\">120</td><td class=\"number\">6</td>"
             .to_string(),
         "<td>0 0 1 0</td>".to_string(),

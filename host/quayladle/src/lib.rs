@@ -39,10 +39,12 @@ mod ffi;
 mod reader;
 mod refusal;
 mod reply;
+mod texts;
 
 pub use reader::Reader;
 pub use refusal::{Reason, Refusal};
 pub use reply::{Reply, Verdict};
+pub use texts::text;
 
 /// The largest file, in bytes.
 pub const LARGEST_FILE: usize = 16_777_216;
@@ -50,7 +52,7 @@ pub const LARGEST_FILE: usize = 16_777_216;
 /// How many numbers a row has.
 pub const WIDTH: usize = 10;
 
-/// One line of a file: its kind, then its fields, a text by its start and length in the file.
+/// One line of a file: its kind, then its fields, a text by its start and length in the file; [`text()`] gives it.
 pub type Row = [i64; WIDTH];
 
 /// Checks a file: 0 with the number of its rows, or its first refusal.

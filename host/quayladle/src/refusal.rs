@@ -21,7 +21,7 @@ pub enum Reason {
     Number = 7,
     /// Finer than five decimals.
     Decimals = 8,
-    /// A wrong word, version or date, or BOARD in a board file.
+    /// A wrong word, version or date, or BOARD as a reference in a board file; words and BOARD in any letter case.
     Word = 9,
     /// Past a sign or angle limit.
     Limit = 10,
@@ -112,7 +112,8 @@ impl Reason {
             Reason::Number => "a field is no number or integer, or is too large",
             Reason::Decimals => "a number has a sixth decimal that is not zero",
             Reason::Word => {
-                "a word that its list does not have, a version other than 3.0, a bad date, or BOARD in a board file"
+                "a word in quotes or not in its list, a version other than 3.0, a bad date, or BOARD as a reference in \
+                a board file; letter case does not matter"
             }
             Reason::Limit => "a number below zero or an angle beyond 360 where none may be",
             Reason::Loop => "a loop not closed, a point repeated, or a wrong label or angle",

@@ -20,7 +20,7 @@ const PANEL: &[u8] = include_bytes!("../../../samples/panel_dated.emn");
 const LIBRARY: &[u8] = include_bytes!("../../../samples/shelf/libraries/connectors.emp");
 
 /// Pieces of files; blind changes alone would seldom make a keyword.
-const PIECES: [&[u8]; 31] = [
+const PIECES: [&[u8]; 36] = [
     b"\n",
     b"\r",
     b"\r\n",
@@ -50,6 +50,11 @@ const PIECES: [&[u8]; 31] = [
     b".ELECTRICAL\ng p MM 1\n",
     b".ELECTRICAL\ng p MM 1\n0 0 0 0\n0 1 0 360\n.END_ELECTRICAL\n",
     b"PROP a b\n",
+    b"prop a b\n",
+    b"library_file 3.0 s 2024/05/06.07:08:09 1\n",
+    b".placement\na b norefdes\n0 0 0 0 top placed\n.end_placement\n",
+    b" Board\n",
+    b" mCAD\n",
     b"0 0 0 0\n0 1 0 360\n",
     b"0 0 0 0\n0 1 0 0\n0 0 0 0\n",
 ];

@@ -3,7 +3,7 @@
 mod common;
 
 use common::{agreed, agreed_on_both, agreed_on_rows};
-use generate::{changed, damaged, file, matched, Random};
+use generate::{changed, damaged, file, lettered, matched, Random};
 
 const FILES: u64 = 20_000;
 const PAIRS: u64 = 4_000;
@@ -49,6 +49,74 @@ fn changed_rows() {
     }
     println!("{} lists of rows, replies by number: {seen:?}", FILES / 2);
     assert!(seen[0] > 0 && seen[15] > 0, "{seen:?}");
+}
+
+#[test]
+fn letters_of_words_and_names() {
+    for seed in 0..PAIRS {
+        let [capitals, small, mixed] = lettered(&mut Random::new(seed), 600);
+        for other in [&small, &mixed] {
+            let [verdict, _] = agreed_on_both(seed, &capitals, other);
+            assert_eq!((verdict.reply.number, verdict.reply.count), (0, 1), "{seed}");
+        }
+        agreed(seed, &mixed);
+    }
+}
+
+/// Names, and what looks like one, as rows over other bytes may point at them.
+const NAMES: [&[u8]; 8] =
+    [b"NOREFDES", b"norefdes", b"BOARD", b"Board", b"board", b"panel", b"PANEL", b"norefde"];
+
+#[test]
+fn rows_that_point_at_names() {
+    let mut seen = [0; 16];
+    for seed in (0..FILES / 20).step_by(2) {
+        let file = file(seed);
+        let rows = quayladle::rows(&file).expect("a whole file").concat();
+        for place in starts_of_names(&rows) {
+            for name in NAMES {
+                let mut rows = rows.clone();
+                (rows[place], rows[place + 1]) = (file.len() as i64, name.len() as i64);
+                let reply = agreed_on_rows(seed, &rows, &[&file[..], name].concat());
+                seen[reply.number as usize] += 1;
+            }
+        }
+    }
+    println!("names in rows, replies by number: {seen:?}");
+    assert!(seen[0] > 1000 && seen[15] > 100, "{seen:?}");
+}
+
+/// Where in the numbers of rows references, holes' parts and holes' types start.
+fn starts_of_names(rows: &[i64]) -> Vec<usize> {
+    let columns = |kind| match kind {
+        111 => &[5, 7][..],
+        131 => &[5],
+        _ => &[],
+    };
+    let kinds = rows.iter().enumerate().step_by(10);
+    kinds.flat_map(|(at, &kind)| columns(kind).iter().map(move |column| at + column)).collect()
+}
+
+#[test]
+fn texts_as_they_are_meant_are_those_of_canonical_text() {
+    let mut texts = 0;
+    for seed in (0..FILES).step_by(2) {
+        let file = file(seed);
+        let canonical = quayladle::canon(&file).expect("a whole file");
+        let lists = [&file, &canonical].map(|bytes| quayladle::rows(bytes).expect("rows"));
+        for (row, other) in lists[0].iter().zip(&lists[1]) {
+            for column in 1..10 {
+                let meant = quayladle::text(row, column, &file);
+                assert_eq!(meant, quayladle::text(other, column, &canonical), "{seed}");
+                if let Some(meant) = meant {
+                    let start = other[column] as usize;
+                    assert_eq!(meant, &canonical[start..start + meant.len()], "{seed}");
+                    texts += 1;
+                }
+            }
+        }
+    }
+    assert!(texts > 100_000, "{texts}");
 }
 
 /// Two files by their number: a board and its library, or a file and its canonical text; in half of

@@ -8,15 +8,17 @@ use common::{agreed, agreed_on_both, agreed_on_rows};
 use generate::windows_copy;
 
 /// The samples and the number that the notes beside them list for each.
-const SAMPLES: [(&str, u64); 8] = [
+const SAMPLES: [(&str, u64); 10] = [
     ("panel.emn", 9),
     ("board.emn", 9),
     ("library.emp", 9),
     ("panel_dated.emn", 0),
     ("board_dated.emn", 0),
-    ("library_dated.emp", 9),
+    ("library_dated.emp", 0),
     ("library_dated_word.emp", 0),
     ("shelf/boards/main_windows.emn", 0),
+    ("shelf/boards/plate_letters.emn", 0),
+    ("shelf/libraries/hardware.emp", 0),
 ];
 
 fn sample(name: &str) -> Vec<u8> {
@@ -42,7 +44,7 @@ fn pairs_of_samples() {
 
 #[test]
 fn every_sample_torn_at_every_byte() {
-    for name in ["panel_dated.emn", "library_dated_word.emp"] {
+    for name in ["panel_dated.emn", "library_dated_word.emp", "shelf/boards/plate_letters.emn"] {
         let file = sample(name);
         for file in [&file, &windows_copy(&file)] {
             for length in 0..file.len() {

@@ -3,7 +3,7 @@
 use crate::bytes::permitted;
 use crate::kinds::{Kind, Type};
 use crate::numbers::{is_date, LARGEST_INTEGER, LARGEST_NUMBER, VERSION};
-use crate::reading::BOARD;
+use crate::reading::names_board;
 use crate::rows::{range, Row, Used};
 use crate::state::State;
 
@@ -51,8 +51,10 @@ fn allows(wanted: Type, columns: &[i64], texts: &Texts, state: &State) -> bool {
             (-LARGEST_NUMBER..=LARGEST_NUMBER).contains(&value) && limit.allows(value)
         }
         Type::Date => texts.at(columns).is_some_and(is_date),
-        Type::Text => texts.at(columns).is_some(),
-        Type::Reference => texts.at(columns).is_some_and(|text| !state.is_board() || text != BOARD),
+        Type::Text | Type::HolePart => texts.at(columns).is_some(),
+        Type::Reference => {
+            texts.at(columns).is_some_and(|text| !state.is_board() || !names_board(text))
+        }
     }
 }
 

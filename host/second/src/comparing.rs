@@ -20,7 +20,7 @@ pub fn same(a: &[u8], b: &[u8]) -> (Reply, u64) {
     (Reply::done(u64::from(equal)), 0)
 }
 
-/// Whether two rows agree, with each text's bytes in place of its start.
+/// Whether two rows agree, with what each text means in place of its start and length.
 fn mean_the_same((p, a): (&Row, &[u8]), (q, b): (&Row, &[u8])) -> bool {
     if p[0] != q[0] {
         return false;
@@ -31,7 +31,7 @@ fn mean_the_same((p, a): (&Row, &[u8]), (q, b): (&Row, &[u8])) -> bool {
         let at = column;
         column += wanted.columns();
         match wanted.columns() {
-            2 => text(p, at, a) == text(q, at, b),
+            2 => wanted.meant(text(p, at, a)) == wanted.meant(text(q, at, b)),
             _ => p[at] == q[at],
         }
     })

@@ -2,13 +2,10 @@
 
 use std::collections::HashMap;
 
-use crate::kinds::LIBRARY_FILE;
-use crate::reading::{self, BOARD};
+use crate::kinds::{Type, BOARD_NAME, LIBRARY_FILE, NOREFDES};
+use crate::reading;
 use crate::reply::Reply;
 use crate::rows::{pair, text, Pair, Row, ELECTRICAL_LINE, MECHANICAL_LINE, PACKAGE_LINE};
-
-/// The reference of a placement that wants a mechanical entry.
-const NOREFDES: &[u8] = b"NOREFDES";
 
 /// Judges a board or panel by a library; the count is its placements, the second part which file
 /// was refused.
@@ -50,11 +47,14 @@ fn entries<'a>(rows: &[Row], library: &'a [u8]) -> HashMap<Pair<'a>, i64> {
     components.map(|row| (pair(row, library), row[0])).collect()
 }
 
-/// The kind of entry that a reference wants, if any.
+/// The kind of entry that a reference wants by what it means, if any.
 fn entry_wanted(reference: &[u8]) -> Option<i64> {
-    match reference {
-        BOARD => None,
-        NOREFDES => Some(MECHANICAL_LINE),
-        _ => Some(ELECTRICAL_LINE),
+    let meant = Type::Reference.meant(reference);
+    if meant == BOARD_NAME.as_bytes() {
+        None
+    } else if meant == NOREFDES.as_bytes() {
+        Some(MECHANICAL_LINE)
+    } else {
+        Some(ELECTRICAL_LINE)
     }
 }

@@ -2,12 +2,12 @@
 
 use crate::numbers::FULL_TURN;
 use Limit::{Any, Included, NotNegative, Positive};
-use Type::{Date, Integer, Number, Reference, Text, Version, Word};
+use Type::{Date, HolePart, Integer, Number, Reference, Text, Version, Word};
 
 /// What a field holds.
 #[derive(Clone, Copy)]
 pub enum Type {
-    /// One word of a list; its column is the word's place from 0.
+    /// One word of a list, in any letter case; its column is the word's place from 0.
     Word(&'static [&'static str]),
     /// The number 3 in any spelling.
     Version,
@@ -19,17 +19,33 @@ pub enum Type {
     Date,
     /// A text; its columns are start and length.
     Text,
-    /// A placement's reference: a text, and BOARD in a panel only.
+    /// A placement's reference: a text or a name, and BOARD in a panel only.
     Reference,
+    /// The part that a hole belongs to: a text or a name.
+    HolePart,
 }
 
 impl Type {
     /// How many columns of a row the field fills.
     pub fn columns(self) -> usize {
         match self {
-            Type::Date | Type::Text | Type::Reference => 2,
+            Type::Date | Type::Text | Type::Reference | Type::HolePart => 2,
             Type::Word(_) | Type::Version | Type::Number(_) | Type::Integer => 1,
         }
+    }
+
+    /// What a text in the field means: a name's capitals whatever its letter case, or its own bytes.
+    pub fn meant(self, text: &[u8]) -> &[u8] {
+        let names = match self {
+            Type::Reference => REFERENCES,
+            Type::HolePart => HOLE_PARTS,
+            _ => return text,
+        };
+        names
+            .iter()
+            .map(|name| name.as_bytes())
+            .find(|name| name.eq_ignore_ascii_case(text))
+            .unwrap_or(text)
     }
 }
 
@@ -112,6 +128,13 @@ const LAYERS: &[&str] = &["TOP", "BOTTOM", "BOTH", "INNER", "ALL"];
 const PLATINGS: &[&str] = &["PTH", "NPTH"];
 const STATUSES: &[&str] = &["PLACED", "UNPLACED", "MCAD", "ECAD"];
 
+/// The reference of a placement that wants a mechanical entry; also a hole's part.
+pub const NOREFDES: &str = "NOREFDES";
+/// The reference of a placement that wants no entry, in panels only; also a hole's part.
+pub const BOARD_NAME: &str = "BOARD";
+const REFERENCES: &[&str] = &[NOREFDES, BOARD_NAME];
+const HOLE_PARTS: &[&str] = &[NOREFDES, BOARD_NAME, "PANEL"];
+
 const LENGTH: Type = Number(Any);
 const POINT: Layout = &[Integer, LENGTH, LENGTH, Number(Included)];
 const FILE: Layout = &[Word(FILE_TYPES), Version, Text, Date, Integer];
@@ -120,7 +143,8 @@ const OTHER: Layout = &[Text, Number(NotNegative), Word(FACES)];
 const ROUTE: Layout = &[Word(LAYERS)];
 const PLACE: Layout = &[Word(SIDES), Number(NotNegative)];
 const REGION: Layout = &[Word(SIDES), Text];
-const HOLE: Layout = &[Number(Positive), LENGTH, LENGTH, Word(PLATINGS), Text, Text, Word(OWNERS)];
+const HOLE: Layout =
+    &[Number(Positive), LENGTH, LENGTH, Word(PLATINGS), HolePart, Text, Word(OWNERS)];
 const NOTE: Layout = &[LENGTH, LENGTH, LENGTH, LENGTH, Text];
 const PACKAGE: Layout = &[Text, Text, Reference];
 const PLACED: Layout =
@@ -260,5 +284,5 @@ impl Kind {
     }
 }
 
-/// The word that begins a property's line.
+/// The word that begins a property's line, in any letter case.
 pub const PROP: &str = "PROP";

@@ -2,14 +2,11 @@
 
 use crate::bytes::{Line, Lines, LARGEST_FILE};
 use crate::fields::{Field, Split};
-use crate::kinds::{Kind, Type, PROP};
+use crate::kinds::{Kind, Type, BOARD_NAME, PROP};
 use crate::numbers::{integer, is_date, number, VERSION};
 use crate::reply::{Fault, Reply};
 use crate::rows::{Row, Used, WIDTH};
 use crate::state::State;
-
-/// The word that is a reference in panels only.
-pub const BOARD: &[u8] = b"BOARD";
 
 /// Checks a file; the count is its rows.
 pub fn check(file: &[u8]) -> Reply {
@@ -98,7 +95,7 @@ fn kind_of(first: &Field, state: &State) -> Option<Kind> {
         Some(keyword @ [b'.', ..]) => {
             Kind::of_keyword(keyword).filter(|&kind| state.may_stand(kind))
         }
-        word => state.data_kind(word == Some(PROP.as_bytes())),
+        word => state.data_kind(word.is_some_and(|word| is_word(PROP, word))),
     }
 }
 
@@ -117,8 +114,8 @@ fn fill(wanted: Type, field: &Field, state: &State, columns: &mut [i64]) -> Resu
             _ => return Err(Fault::Limit),
         },
         Type::Date if !bare.is_some_and(is_date) => return Err(Fault::Word),
-        Type::Reference if state.is_board() && field.bytes == BOARD => return Err(Fault::Word),
-        Type::Date | Type::Text | Type::Reference => {
+        Type::Reference if state.is_board() && names_board(field.bytes) => return Err(Fault::Word),
+        Type::Date | Type::Text | Type::Reference | Type::HolePart => {
             columns[1] = field.bytes.len() as i64;
             field.start as i64
         }
@@ -128,6 +125,17 @@ fn fill(wanted: Type, field: &Field, state: &State, columns: &mut [i64]) -> Resu
 
 /// The place of a bare word in a list.
 fn word(list: &[&str], bare: Option<&[u8]>) -> Option<i64> {
-    let place = list.iter().position(|word| Some(word.as_bytes()) == bare)?;
+    let bare = bare?;
+    let place = list.iter().position(|word| is_word(word, bare))?;
     Some(place as i64)
+}
+
+/// Whether bytes are a word in some mixture of letter case.
+fn is_word(word: &str, bytes: &[u8]) -> bool {
+    word.as_bytes().eq_ignore_ascii_case(bytes)
+}
+
+/// Whether a reference means BOARD, which is one in panels only.
+pub fn names_board(reference: &[u8]) -> bool {
+    Type::Reference.meant(reference) == BOARD_NAME.as_bytes()
 }

@@ -69,7 +69,7 @@ pub enum Fault {
     Number = 7,
     /// Finer than five decimals.
     Decimals = 8,
-    /// A wrong word, version or date, or BOARD in a board file.
+    /// A wrong word, version or date, or BOARD as a reference in a board file, in any letter case.
     Word = 9,
     /// Past a sign or angle limit.
     Limit = 10,

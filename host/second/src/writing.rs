@@ -77,7 +77,9 @@ fn push_field(
         Type::Version => out.extend_from_slice(b"3.0"),
         Type::Number(_) => push_number(value, out),
         Type::Integer => push_integer(value, out),
-        Type::Date | Type::Text | Type::Reference => push_text(text(row, column, bytes), out)?,
+        Type::Date | Type::Text | Type::Reference | Type::HolePart => {
+            push_text(wanted.meant(text(row, column, bytes)), out)?;
+        }
     }
     Some(())
 }

@@ -15,15 +15,17 @@ const fn reply(number: u64, line: u64, count: u64) -> Reply {
 
 #[test]
 fn replies_of_the_notes() {
-    let wrong_date_or_word = reply(9, 2, 0);
+    let wrong_date = reply(9, 2, 0);
     let table = [
-        ("panel.emn", wrong_date_or_word),
-        ("board.emn", wrong_date_or_word),
-        ("library.emp", wrong_date_or_word),
+        ("panel.emn", wrong_date),
+        ("board.emn", wrong_date),
+        ("library.emp", wrong_date),
         ("panel_dated.emn", reply(0, 0, 39)),
         ("board_dated.emn", reply(0, 0, 215)),
-        ("library_dated.emp", wrong_date_or_word),
+        ("library_dated.emp", reply(0, 0, 56)),
         ("library_dated_word.emp", reply(0, 0, 56)),
+        ("shelf/boards/plate.emn", reply(0, 0, 35)),
+        ("shelf/boards/plate_letters.emn", reply(0, 0, 35)),
     ];
     for (name, expected) in table {
         assert_eq!(check(&sample(name)), expected, "{name}");
@@ -48,8 +50,32 @@ fn a_board_from_a_windows_seat_is_the_same() {
 }
 
 #[test]
+fn a_board_in_other_letters_is_the_same() {
+    let (plate, letters) =
+        (sample("shelf/boards/plate.emn"), sample("shelf/boards/plate_letters.emn"));
+    assert!(plate != letters && plate.eq_ignore_ascii_case(&letters));
+    assert_eq!(same(&plate, &letters), (reply(0, 0, 1), 0));
+    assert_eq!(canon(&plate), canon(&letters));
+    let screws_and_connector = sample("shelf/libraries/hardware.emp");
+    assert_eq!(judge(&letters, &screws_and_connector), (reply(0, 0, 3), 0));
+    let connector_alone = sample("shelf/libraries/connectors.emp");
+    assert_eq!(judge(&letters, &connector_alone), (reply(16, 0, 1), 1));
+}
+
+#[test]
+fn a_library_with_its_type_in_other_letters_is_the_same() {
+    let (printed, put_right) = (sample("library_dated.emp"), sample("library_dated_word.emp"));
+    assert_eq!(same(&printed, &put_right), (reply(0, 0, 1), 0));
+}
+
+#[test]
 fn canonical_text_means_the_same() {
-    for name in ["panel_dated.emn", "board_dated.emn", "library_dated_word.emp"] {
+    for name in [
+        "panel_dated.emn",
+        "board_dated.emn",
+        "library_dated_word.emp",
+        "shelf/boards/plate_letters.emn",
+    ] {
         let file = sample(name);
         let text = canon(&file).expect("an accepted file");
         assert_eq!(same(&file, &text), (reply(0, 0, 1), 0), "{name}");

@@ -9,11 +9,11 @@ ruleset laws = (byte-none, needs)
 returns : tie.Need-returns
 returns c = search laws
 
-shared-slice-read-letter : tie.Need-shared-slice-read-letter
-shared-slice-read-letter c = search laws
+shared-slice-read-capital-of : tie.Need-shared-slice-read-capital-of
+shared-slice-read-capital-of c = search laws
 
-letter-requires : tie.Need-letter-requires
-letter-requires c κs = search laws
+capital-of-requires : tie.Need-capital-of-requires
+capital-of-requires c κs = search laws
 
 returns-2 : tie.Need-returns-2
 returns-2 c = search laws
@@ -21,4 +21,4 @@ returns-2 c = search laws
 pub byte-at-spec : {M : Type 1} → statement M
 byte-at-spec =
     tie.close
-    (tie.spec returns shared-slice-read-letter letter-requires returns-2)
+    (tie.spec returns shared-slice-read-capital-of capital-of-requires returns-2)

@@ -6,11 +6,11 @@ use Rattle.form_words.proofs.is_prop.Tie as tie
 
 ruleset laws = (prop-is, needs)
 
-slice-aggregate-matches : tie.Need-slice-aggregate-matches
-slice-aggregate-matches c = search laws
+slice-aggregate-same-letters : tie.Need-slice-aggregate-same-letters
+slice-aggregate-same-letters c = search laws
 
-matches-requires : tie.Need-matches-requires
-matches-requires c κs = search laws
+same-letters-requires : tie.Need-same-letters-requires
+same-letters-requires c κs = search laws
 
 returns : tie.Need-returns
 returns c = search laws
@@ -18,4 +18,4 @@ returns c = search laws
 pub is-prop-spec : {M : Type 1} → statement M
 is-prop-spec =
     tie.close
-    (tie.spec slice-aggregate-matches matches-requires returns)
+    (tie.spec slice-aggregate-same-letters same-letters-requires returns)

@@ -1,7 +1,7 @@
 -- `form_words::matches` meets its contract: what is passed of the row and of the bytes agrees. Assumes nothing.
 use Prim.Native.Nat.{ℕ, _-_, _≤_, _<_}
 use mathlib.Core.Path.{_≡_, sym}
-use mathlib.Core.Bool.{Bool, false}
+use mathlib.Core.Bool.{false}
 use mathlib.Core.List.{List}
 use borrow.Author.Needs.{needs}
 use lib.ListN.{length, drop}
@@ -11,13 +11,13 @@ use Rattle.form_words.proofs.matches.Statement.{statement}
 use Rattle.form_words.proofs.matches.Tie as tie
 
 abbrev Inv-loop : tie.InvT-loop
-Inv-loop row s fold i₀ i = (i ≤ length s) × (length s ≤ length row) × (matched fold (drop i row) (drop i s) ≡ matched fold row s)
+Inv-loop row s i₀ i = (i ≤ length s) × (length s ≤ length row) × (matched (drop i row) (drop i s) ≡ matched row s)
 
 abbrev μ-loop : tie.MeasureT-loop
-μ-loop row s fold i₀ i = length s - i
+μ-loop row s i₀ i = length s - i
 
-long : (fold : Bool) (row s : List ℕ) → length row < length s → false ≡ matched fold row s
-long fold row s h = sym (matched-long fold row s h)
+long : (row s : List ℕ) → length row < length s → false ≡ matched row s
+long row s h = sym (matched-long row s h)
 
 ruleset laws = (long, match-stop, match-more, match-full, match-over, needs)
 
@@ -27,11 +27,11 @@ returns c = search laws
 loop-holds : tie.Need-loop-holds Inv-loop μ-loop
 loop-holds c = search laws
 
-shared-slice-read-letter : tie.Need-shared-slice-read-letter Inv-loop μ-loop
-shared-slice-read-letter c = search laws
+shared-slice-read-capital-of : tie.Need-shared-slice-read-capital-of Inv-loop μ-loop
+shared-slice-read-capital-of c = search laws
 
-letter-requires : tie.Need-letter-requires Inv-loop μ-loop
-letter-requires c κs = search laws
+capital-of-requires : tie.Need-capital-of-requires Inv-loop μ-loop
+capital-of-requires c κs = search laws
 
 shared-slice-read-if2 : tie.Need-shared-slice-read-if2 Inv-loop μ-loop
 shared-slice-read-if2 c = search laws
@@ -63,4 +63,4 @@ returns-4 c = search laws
 pub matches-spec : {M : Type 1} → statement M
 matches-spec =
     tie.close
-    (tie.spec Inv-loop μ-loop returns loop-holds shared-slice-read-letter letter-requires shared-slice-read-if2 shared-slice-read-if2-2 returns-2 add-i loop-less loop-again returns-3 shared-slice-read-result returns-4)
+    (tie.spec Inv-loop μ-loop returns loop-holds shared-slice-read-capital-of capital-of-requires shared-slice-read-if2 shared-slice-read-if2-2 returns-2 add-i loop-less loop-again returns-3 shared-slice-read-result returns-4)

@@ -3,14 +3,14 @@ use borrow.Author.Needs.{needs}
 use Rattle.form_words.proofs.SeekLaws.{seek-start, seek-found, seek-more, seek-over}
 use Prim.Native.Nat.{ℕ, _+_, _-_, _≤_}
 use mathlib.Core.Path.{_≡_}
-use mathlib.Core.Bool.{true}
 use lib.ListN.{length, take, drop, getD}
-use Rattle.form_words.specs.Padded.{keyed, keywordTable, sought}
+use Rattle.law.specs.Words.{capital}
+use Rattle.form_words.specs.Padded.{keywordTable, sought}
 use Rattle.form_words.proofs.seek_keyword.Statement.{statement}
 use Rattle.form_words.proofs.seek_keyword.Tie as tie
 
 abbrev Inv-loop : tie.InvT-loop
-Inv-loop first s a b i₀ i = (i ≤ 15) × (first + 15 ≤ length keywordTable) × (a ≡ keyed true (getD s 0 0)) × (b ≡ keyed true (getD s 4 0)) × (sought true i (take (15 - i) (drop (first + i) keywordTable)) s ≡ sought true 0 (take 15 (drop first keywordTable)) s)
+Inv-loop first s a b i₀ i = (i ≤ 15) × (first + 15 ≤ length keywordTable) × (a ≡ capital (getD s 0 0)) × (b ≡ capital (getD s 4 0)) × (sought i (take (15 - i) (drop (first + i) keywordTable)) s ≡ sought 0 (take 15 (drop first keywordTable)) s)
 
 abbrev μ-loop : tie.MeasureT-loop
 μ-loop first s a b i₀ i = 15 - i

@@ -3,14 +3,14 @@ use borrow.Author.Needs.{needs}
 use Rattle.form_words.proofs.SeekLaws.{seek-start, seek-found, seek-more, seek-over}
 use Prim.Native.Nat.{ℕ, _+_, _-_, _≤_}
 use mathlib.Core.Path.{_≡_}
-use mathlib.Core.Bool.{false}
 use lib.ListN.{length, take, drop, getD}
-use Rattle.form_words.specs.Padded.{keyed, wordTable, sought}
+use Rattle.law.specs.Words.{capital}
+use Rattle.form_words.specs.Padded.{wordTable, sought}
 use Rattle.form_words.proofs.seek_word.Statement.{statement}
 use Rattle.form_words.proofs.seek_word.Tie as tie
 
 abbrev Inv-loop : tie.InvT-loop
-Inv-loop first count s b i₀ i = (i ≤ count) × (first + count ≤ length wordTable) × (b ≡ keyed false (getD s 0 0)) × (sought false i (take (count - i) (drop (first + i) wordTable)) s ≡ sought false 0 (take count (drop first wordTable)) s)
+Inv-loop first count s b i₀ i = (i ≤ count) × (first + count ≤ length wordTable) × (b ≡ capital (getD s 0 0)) × (sought i (take (count - i) (drop (first + i) wordTable)) s ≡ sought 0 (take count (drop first wordTable)) s)
 
 abbrev μ-loop : tie.MeasureT-loop
 μ-loop first count s b i₀ i = count - i

@@ -9,11 +9,11 @@ ruleset laws = (barred-by, barred-not, needs)
 is-board-requires : tie.Need-is-board-requires
 is-board-requires c κs = search laws
 
-slice-aggregate-same-bytes : tie.Need-slice-aggregate-same-bytes
-slice-aggregate-same-bytes c = search laws
+slice-aggregate-same-letters : tie.Need-slice-aggregate-same-letters
+slice-aggregate-same-letters c = search laws
 
-same-bytes-requires : tie.Need-same-bytes-requires
-same-bytes-requires c κs = search laws
+same-letters-requires : tie.Need-same-letters-requires
+same-letters-requires c κs = search laws
 
 returns : tie.Need-returns
 returns c = search laws
@@ -24,4 +24,4 @@ returns-2 c = search laws
 pub bars-reference-spec : {M : Type 1} → statement M
 bars-reference-spec =
     tie.close
-    (tie.spec is-board-requires slice-aggregate-same-bytes same-bytes-requires returns returns-2)
+    (tie.spec is-board-requires slice-aggregate-same-letters same-letters-requires returns returns-2)

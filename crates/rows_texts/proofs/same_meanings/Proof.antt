@@ -6,8 +6,14 @@ use Rattle.rows_texts.proofs.same_meanings.Tie as tie
 
 ruleset laws = (meanings-by, needs)
 
-same-texts-requires : tie.Need-same-texts-requires
-same-texts-requires c κs = search laws
+text-requires : tie.Need-text-requires
+text-requires c κs = search laws
+
+text-requires-2 : tie.Need-text-requires-2
+text-requires-2 c κs = search laws
+
+same-meanings-requires : tie.Need-same-meanings-requires
+same-meanings-requires c κs = search laws
 
 returns : tie.Need-returns
 returns c = search laws
@@ -15,4 +21,4 @@ returns c = search laws
 pub same-meanings-spec : {M : Type 1} → statement M
 same-meanings-spec =
     tie.close
-    (tie.spec same-texts-requires returns)
+    (tie.spec text-requires text-requires-2 same-meanings-requires returns)

@@ -9,8 +9,8 @@ ruleset laws = (text-by, needs)
 text-requires : tie.Need-text-requires
 text-requires c κs = search laws
 
-same-bytes-requires : tie.Need-same-bytes-requires
-same-bytes-requires c κs = search laws
+means-requires : tie.Need-means-requires
+means-requires c κs = search laws
 
 returns : tie.Need-returns
 returns c = search laws
@@ -18,4 +18,4 @@ returns c = search laws
 pub text-is-spec : {M : Type 1} → statement M
 text-is-spec =
     tie.close
-    (tie.spec text-requires same-bytes-requires returns)
+    (tie.spec text-requires means-requires returns)

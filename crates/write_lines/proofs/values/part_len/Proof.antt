@@ -1,10 +1,10 @@
 -- `write_lines::values::part_len` meets its contract. Assumes nothing.
 use borrow.Author.Needs.{needs}
-use Rattle.write_lines.proofs.PieceLaws.{length-as, part-end, part-start, part-fits, text-is}
+use Rattle.write_lines.proofs.PieceLaws.{part-end, part-start, part-fits, text-long}
 use Rattle.write_lines.proofs.values.part_len.Statement.{statement}
 use Rattle.write_lines.proofs.values.part_len.Tie as tie
 
-ruleset laws = (length-as, part-end, part-start, part-fits, text-is, needs)
+ruleset laws = (part-end, part-start, part-fits, text-long, needs)
 
 magnitude-requires : tie.Need-magnitude-requires
 magnitude-requires c κs = search laws

@@ -12,20 +12,20 @@ magnitude-requires c κs = search laws
 magnitude-requires-2 : tie.Need-magnitude-requires-2
 magnitude-requires-2 c κs = search laws
 
-add-put-text : tie.Need-add-put-text
-add-put-text c = search laws
+add-put-meaning : tie.Need-add-put-meaning
+add-put-meaning c = search laws
 
-sub-put-text : tie.Need-sub-put-text
-sub-put-text c = search laws
+sub-put-meaning : tie.Need-sub-put-meaning
+sub-put-meaning c = search laws
 
-part-put-text-start : tie.Need-part-put-text-start
-part-put-text-start c = search laws
+part-put-meaning-start : tie.Need-part-put-meaning-start
+part-put-meaning-start c = search laws
 
-part-put-text-end : tie.Need-part-put-text-end
-part-put-text-end c = search laws
+part-put-meaning-end : tie.Need-part-put-meaning-end
+part-put-meaning-end c = search laws
 
-put-text-requires : tie.Need-put-text-requires
-put-text-requires c κs = search laws
+put-meaning-requires : tie.Need-put-meaning-requires
+put-meaning-requires c κs = search laws
 
 same-length : tie.Need-same-length
 same-length c = search laws
@@ -36,4 +36,4 @@ returns c = search laws
 pub put-part-spec : {M : Type 1} → statement M
 put-part-spec =
     tie.close
-    (tie.spec magnitude-requires magnitude-requires-2 add-put-text sub-put-text part-put-text-start part-put-text-end put-text-requires same-length returns)
+    (tie.spec magnitude-requires magnitude-requires-2 add-put-meaning sub-put-meaning part-put-meaning-start part-put-meaning-end put-meaning-requires same-length returns)

@@ -1,12 +1,12 @@
--- `form_words::letter` meets its contract. Assumes nothing.
+-- `basics::letter` meets its contract. Assumes nothing.
 use Prim.Native.Nat.{ℕ}
 use mathlib.Core.Path.{_≡_}
 use mathlib.Core.Bool.{Bool, true, false}
 use borrow.Author.Needs.{needs}
-use Rattle.form.specs.Compare.{capital}
-use Rattle.form_words.specs.Padded.{keyed}
-use Rattle.form_words.proofs.letter.Statement.{statement}
-use Rattle.form_words.proofs.letter.Tie as tie
+use Rattle.basics.specs.Letters.{keyed}
+use Rattle.basics.proofs.letter.Statement.{statement}
+use Rattle.basics.proofs.letter.Tie as tie
+use Rattle.law.specs.Words.{capital}
 
 module _ (b r : ℕ) (fold : Bool) where
   folds : r ≡ capital b → fold ≡ true → r ≡ keyed fold b

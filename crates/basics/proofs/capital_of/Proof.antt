@@ -1,4 +1,4 @@
--- `form_words::capital_of` meets its contract. Assumes nothing.
+-- `basics::capital_of` meets its contract. Assumes nothing.
 use Prim.Native.Nat.{ℕ, _-_, _≤_}
 use mathlib.Core.Path.{_≡_}
 use mathlib.Core.Bool.{true, false}
@@ -6,11 +6,10 @@ use native.Mathlib.Omega.{arith}
 use borrow.Author.Needs.{needs}
 use borrow.Author.Tests.{leb-true}
 use lib.Dec.{leb}
 use Rattle.basics.proofs.Bools.{and-left}
-use Rattle.law.specs.Words.{isSmall}
-use Rattle.form.specs.Compare.{capital}
-use Rattle.form_words.proofs.capital_of.Statement.{statement}
-use Rattle.form_words.proofs.capital_of.Tie as tie
+use Rattle.law.specs.Words.{isSmall, capital}
+use Rattle.basics.proofs.capital_of.Statement.{statement}
+use Rattle.basics.proofs.capital_of.Tie as tie
 
 module _ (b : ℕ) where
   low : isSmall b ≡ true → 32 ≤ b
