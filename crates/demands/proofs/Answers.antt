@@ -1,5 +1,5 @@
 -- What the answers of `check` and `read` mean, from the lines of the file.
-use Prim.Native.Nat.{ℕ, _+_, _*_, _/_, _≤_, _<_}
+use Prim.Native.Nat.{ℕ, _+_, _*_, _≤_, _<_}
 use mathlib.Core.Path.{_≡_, refl, sym, ap, _∙_}
 use mathlib.Core.List.{List, [], _∷_, _++_}
 use mathlib.Core.Bool.{Bool, true, false, cond, false≢true}
@@ -14,7 +14,7 @@ use Rattle.law.specs.Lines.{File}
 use Rattle.text.proofs.LineSpelling.{lines-complete, lines-unique}
 use Rattle.law.specs.Values.{Rec}
 use Rattle.law.specs.declared.Rules.the-variants.{Idf3}
-use Rattle.law.specs.Rows.{width, RowsMean}
+use Rattle.law.specs.Rows.{stride, capacity, RowsMean}
 use Rattle.order.specs.Automaton.{start, accepting}
 use Rattle.law.specs.Answers.{limit, reply}
 use Rattle.read.specs.Replies.{checkReply, readReply, readRows, rowsOf}
@@ -71,18 +71,18 @@ module _ {file : List ℕ} (h : length file ≤ limit) (ls more : List (List ℕ
 
 -- `read` answers 0 only for a file that says a list, with room for its rows
 module _ (file : List ℕ) (room : ℕ) where
-  accepted-room : readReply file room .number ≡ 0 → (checkReply file .number ≡ 0) × (checkReply file .count ≤ room / width)
+  accepted-room : readReply file room .number ≡ 0 → (checkReply file .number ≡ 0) × (checkReply file .count ≤ capacity room)
   unfolding readReply
-  accepted-room = go (eqb (checkReply file .number) 0) (ltb (room / width) (checkReply file .count)) refl refl
+  accepted-room = go (eqb (checkReply file .number) 0) (ltb (capacity room) (checkReply file .count)) refl refl
     where
-      go : (a b : Bool) → eqb (checkReply file .number) 0 ≡ a → ltb (room / width) (checkReply file .count) ≡ b
+      go : (a b : Bool) → eqb (checkReply file .number) 0 ≡ a → ltb (capacity room) (checkReply file .count) ≡ b
           → cond a (cond b (reply 2 0 (checkReply file .count)) (checkReply file)) (checkReply file) .number ≡ 0
-          → (checkReply file .number ≡ 0) × (checkReply file .count ≤ room / width)
+          → (checkReply file .number ≡ 0) × (checkReply file .count ≤ capacity room)
       go true true x y z = absurd (omega arith)
-      go true false x y z = (eqb-true (checkReply file .number) 0 x, ltb-false (room / width) (checkReply file .count) y)
+      go true false x y z = (eqb-true (checkReply file .number) 0 x, ltb-false (capacity room) (checkReply file .count) y)
       go false b x y z = let w : false ≡ true = sym x ∙ ap (λ (n : ℕ). eqb n 0) z in absurd (false≢true w)
 
-  pub read-list : readReply file room .number ≡ 0 → (length file ≤ limit) × ((rs : List Rec) × FileSays Idf3 rs file × (length rs ≤ room / width))
+  pub read-list : readReply file room .number ≡ 0 → (length file ≤ limit) × ((rs : List Rec) × FileSays Idf3 rs file × (length rs ≤ capacity room))
   read-list z =
       let w = accepted-room z in
       let h = accepted-small file (checkReply file) refl (w .0) in
@@ -91,10 +91,10 @@ module _ (file : List ℕ) (room : ℕ) where
       (h, (s .0, s .1, rw (sym c) (w .1)))
 
 -- the rows of a file that says a list, in front of what they do not cover
-module _ (file : List ℕ) (h : length file ≤ limit) {rs : List Rec} (s : FileSays Idf3 rs file) (old : List ℤ) (i : length rs ≤ length old / width) where
-  pub front-means : RowsMean file rs (take (width * length rs) (readRows file old))
-  front-means = rw (read-puts file h s old i, take-at (rowsOf file) (drop (length (rowsOf file)) old) (width * length rs) (check-long file s)) (check-rows file s)
+module _ (file : List ℕ) (h : length file ≤ limit) {rs : List Rec} (s : FileSays Idf3 rs file) (old : List ℤ) (i : length rs ≤ capacity (length old)) where
+  pub front-means : RowsMean file rs (take (stride * length rs) (readRows file old))
+  front-means = rw (read-puts file h s old i, take-at (rowsOf file) (drop (length (rowsOf file)) old) (stride * length rs) (check-long file s)) (check-rows file s)
 
-  pub behind-kept : drop (width * length rs) (readRows file old) ≡ drop (width * length rs) old
+  pub behind-kept : drop (stride * length rs) (readRows file old) ≡ drop (stride * length rs) old
   behind-kept =
-      rw (read-puts file h s old i, drop-at (rowsOf file) (drop (length (rowsOf file)) old) (width * length rs) (check-long file s), check-long file s) refl
+      rw (read-puts file h s old i, drop-at (rowsOf file) (drop (length (rowsOf file)) old) (stride * length rs) (check-long file s), check-long file s) refl

@@ -1,5 +1,5 @@
 -- The three demands, sentence by sentence, and judging: what each outcome that a contract allows says of the files, by the rules for producing them.
-use Prim.Native.Nat.{ℕ, _+_, _*_, _/_, _≤_, _<_}
+use Prim.Native.Nat.{ℕ, _+_, _*_, _≤_, _<_}
 use mathlib.Core.Path.{_≡_, refl, sym, ap, _∙_, subst}
 use mathlib.Core.Logic.{_↔_}
 use mathlib.Core.List.{List, _∷_, _++_}
@@ -11,7 +11,7 @@ use Rattle.law.specs.Lines.{File}
 use Rattle.text.proofs.LineSpelling.{lines-complete}
 use Rattle.law.specs.Values.{Rec}
 use Rattle.law.specs.declared.Rules.the-variants.{Idf3}
-use Rattle.law.specs.Rows.{width, RowsMean, RowsSay}
+use Rattle.law.specs.Rows.{stride, capacity, RowsMean, RowsSay}
 use Rattle.law.specs.Lists.{Permitted, Distinct}
 use Rattle.law.specs.Answers.{limit, verdict, reply}
 use Rattle.read.specs.Replies.{checkReply, rowsOf}
@@ -81,9 +81,9 @@ pub records : {file : List ℕ} {old new : List ℤ} {r : Reply} → Reads file 
     → (rs : List Rec)
     × (s : FileSays Idf3 rs file)
     × (r ≡ reply 0 0 (length rs))
-    × RowsMean file rs (take (width * length rs) new)
-    × RowsAt (under Idf3 (titled rs)) file 0 (s .lines) rs (take (width * length rs) new)
-    × (drop (width * length rs) new ≡ drop (width * length rs) old)
+    × RowsMean file rs (take (stride * length rs) new)
+    × RowsAt (under Idf3 (titled rs)) file 0 (s .lines) rs (take (stride * length rs) new)
+    × (drop (stride * length rs) new ≡ drop (stride * length rs) old)
 records {file} {old} o z =
     let w = read-list file (length old) (sym (ap numberIn (o .answer)) ∙ z) in
     let h = w .0 in
@@ -97,10 +97,10 @@ rows-one a b = told.rows-one a b
 
 -- all its records or none: too few rows lent is 2, with the number of rows needed
 module _ {file : List ℕ} {old new : List ℤ} {r : Reply} (o : Reads file old r new) (h : length file ≤ limit) {rs : List Rec} (s : FileSays Idf3 rs file) where
-  pub read-whole : length rs ≤ length old / width → r ≡ reply 0 0 (length rs)
+  pub read-whole : length rs ≤ capacity (length old) → r ≡ reply 0 0 (length rs)
   read-whole i = o .answer ∙ reading.read-says file h s old i
 
-  pub read-short : length old / width < length rs → r ≡ reply 2 0 (length rs)
+  pub read-short : capacity (length old) < length rs → r ≡ reply 2 0 (length rs)
   read-short i = o .answer ∙ reading.read-short file h s old i
 
 -- what `check` refuses, `read` refuses so
@@ -121,33 +121,33 @@ written-iff {rows} {bytes} {old} = (λ o. rw (o .answer, o .left) (write-answers
 
 -- "Within the size limit, reading that text gives the same records back"
 pub round-trip : {rs : List Rec} {old new : List ℤ} {r : Reply} → Permitted Idf3 rs → Distinct Idf3 rs → length (canonicalText Idf3 rs) ≤ limit
-    → Reads (canonicalText Idf3 rs) old r new → length rs ≤ length old / width
-    → (r ≡ reply 0 0 (length rs)) × RowsMean (canonicalText Idf3 rs) rs (take (width * length rs) new)
+    → Reads (canonicalText Idf3 rs) old r new → length rs ≤ capacity (length old)
+    → (r ≡ reply 0 0 (length rs)) × RowsMean (canonicalText Idf3 rs) rs (take (stride * length rs) new)
 round-trip {rs} {old} p d h o i =
     let s = canonical-spells p d in
     (read-whole o h s i, rw (o .left) (front-means (canonicalText Idf3 rs) h s old i))
 
 -- what was read from a file is written as the canonical text of the list that the file says
 pub written-read : {file : List ℕ} {rs : List Rec} {old new : List ℤ} {r q : Reply} {room out : List ℕ} → FileSays Idf3 rs file → length file ≤ limit
-    → Reads file old r new → length rs ≤ length old / width
-    → Writes (take (width * length rs) new) file room q out → length (canonicalText Idf3 rs) ≤ limit → length (canonicalText Idf3 rs) ≤ length room
+    → Reads file old r new → length rs ≤ capacity (length old)
+    → Writes (take (stride * length rs) new) file room q out → length (canonicalText Idf3 rs) ≤ limit → length (canonicalText Idf3 rs) ≤ length room
     → (q ≡ reply 0 0 (length (canonicalText Idf3 rs))) × (out ≡ canonicalText Idf3 rs ++ drop (length (canonicalText Idf3 rs)) room)
 written-read {file} {rs} {old} {new} {room = room} s h o i u l j =
-    let e : take (width * length rs) new ≡ rowsOf file = ap (take (width * length rs)) (o .left) ∙ texts.read-front file s h old i in
+    let e : take (stride * length rs) new ≡ rowsOf file = ap (take (stride * length rs)) (o .left) ∙ texts.read-front file s h old i in
     let w = texts.write-read-text file s l room j in
     (u .answer ∙ ap (λ (xs : List ℤ). writeReply xs file (length room)) e ∙ w .0, u .left ∙ ap (λ (xs : List ℤ). writeText xs file room) e ∙ w .1)
 
 -- so a canonical text is written as itself
 pub written-again : {rs : List Rec} {old new : List ℤ} {r q : Reply} {room out : List ℕ} → Permitted Idf3 rs → Distinct Idf3 rs → length (canonicalText Idf3 rs) ≤ limit
-    → Reads (canonicalText Idf3 rs) old r new → length rs ≤ length old / width
-    → Writes (take (width * length rs) new) (canonicalText Idf3 rs) room q out → length (canonicalText Idf3 rs) ≤ length room
+    → Reads (canonicalText Idf3 rs) old r new → length rs ≤ capacity (length old)
+    → Writes (take (stride * length rs) new) (canonicalText Idf3 rs) room q out → length (canonicalText Idf3 rs) ≤ length room
     → (q ≡ reply 0 0 (length (canonicalText Idf3 rs))) × (out ≡ canonicalText Idf3 rs ++ drop (length (canonicalText Idf3 rs)) room)
 written-again p d h o i u j = written-read (canonical-spells p d) h o i u h j
 
 -- what `write` wrote, `read` reads as the list that the rows said
 pub read-written : {rows old new : List ℤ} {bytes room out : List ℕ} {q r : Reply} {rs : List Rec} → RowsSay bytes rs rows
-    → Writes rows bytes room q out → q .number ≡ 0 → Reads (take (q .count) out) old r new → length rs ≤ length old / width
-    → (r ≡ reply 0 0 (length rs)) × RowsMean (take (q .count) out) rs (take (width * length rs) new)
+    → Writes rows bytes room q out → q .number ≡ 0 → Reads (take (q .count) out) old r new → length rs ≤ capacity (length old)
+    → (r ≡ reply 0 0 (length rs)) × RowsMean (take (q .count) out) rs (take (stride * length rs) new)
 read-written {rows} {bytes = bytes} {room = room} s u z o i =
     let w = written-zero rows bytes room s (written-iff .0 u) z in
     rw (w .1) (round-trip (s .permitted) (s .distinct) (w .0) (rw (w .1) at o) i)

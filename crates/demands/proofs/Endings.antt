@@ -14,7 +14,7 @@ use Rattle.text.proofs.LineSpelling.{lines-sound, lines-unique}
 use Rattle.text.proofs.Copies.{file-copied, copy-longer}
 use Rattle.law.specs.Values.{Rec}
 use Rattle.law.specs.declared.Rules.the-variants.{Idf3}
-use Rattle.law.specs.Rows.{width, RowsMean}
+use Rattle.law.specs.Rows.{stride, RowsMean}
 use Rattle.law.specs.RowPlaces.{startAfter}
 use Rattle.law.specs.Answers.{limit, verdict, reply}
 use Rattle.law.specs.declared.Reply.{Reply}
@@ -56,7 +56,7 @@ module _ {file : List ℕ} where
 
   -- the rows of the copy mean the file's list
   pub windows-rows : {rs : List Rec} {old new : List ℤ} {q : Reply} → FileSays Idf3 rs file → Reads (windows file) old q new → q .number ≡ 0
-      → (q ≡ reply 0 0 (length rs)) × RowsMean (windows file) rs (take (width * length rs) new)
+      → (q ≡ reply 0 0 (length rs)) × RowsMean (windows file) rs (take (stride * length rs) new)
   windows-rows s o z = let w = records o z in rw (one-list (windows-says .0 s) (w .1)) (w .2, w .3)
 
 -- Demand 3 over bytes

@@ -62,6 +62,8 @@ use Rattle.rows.proofs.file_type_in.Kinds as rows-file-type-in
 use Rattle.rows.proofs.file_type_in.Reads as rows-file-type-in-says
 use Rattle.rows.proofs.leads_component.Kinds as rows-leads-component
 use Rattle.rows.proofs.leads_component.Reads as rows-leads-component-says
+use Rattle.rows.proofs.capacity.Kinds as rows-capacity
+use Rattle.rows.proofs.capacity.Reads as rows-capacity-says
 use Rattle.rows.proofs.column_at.Kinds as rows-column-at
 use Rattle.rows.proofs.column_at.Reads as rows-column-at-says
 use Rattle.rows.proofs.has_kind.Kinds as rows-has-kind
@@ -232,6 +234,9 @@ tight-rows-file-type-in κs a r q ws us e f = (e ∙ sym f, refl)
 
 pub tight-rows-leads-component : Tight 0 rows-leads-component.ps rows-leads-component.r rows-leads-component-says.Learnt
 tight-rows-leads-component κs a r q ws us e f = (e ∙ sym f, refl)
+
+pub tight-rows-capacity : Tight 0 rows-capacity.ps rows-capacity.r rows-capacity-says.Learnt
+tight-rows-capacity κs a r q ws us e f = (e ∙ sym f, refl)
 
 pub tight-rows-column-at : Tight 1 rows-column-at.ps rows-column-at.r rows-column-at-says.Learnt
 tight-rows-column-at κs a r q ws us e f = (e ∙ sym f, refl)

@@ -8,7 +8,7 @@ use lib.ListN.{length, replicate}
 use Rattle.law.specs.Lines.{placeBehind, Free}
 use Rattle.law.specs.Values.{Value, number, word, text, Rec}
 use Rattle.law.specs.declared.Context.{Context}
-use Rattle.law.specs.Rows.{width}
+use Rattle.law.specs.Rows.{width, stride}
 use Rattle.law.specs.RecordSpelling.{SpellsRecord}
 use Rattle.law.specs.FieldPlaces.{Spot, SpelledAt, startAndLength}
 
@@ -58,6 +58,6 @@ pub record LineRow (c : Context) (b : ℕ) (l : List ℕ) (rs : List Rec) (xs : 
   pub below : List ℤ
   pub records : rs ≡ before ++ (its ∷ after)
   pub rows : xs ≡ above ++ (row ++ below)
-  pub as-many : length above ≡ width * length before
+  pub as-many : length above ≡ stride * length before
   pub spells : SpellsRecord c its l
   pub is : RowOf b l its row

@@ -16,9 +16,17 @@ use Rattle.law.specs.declared.Words.{Words}
 use Rattle.law.specs.declared.FieldType.the-variants.{Text as T, Date as D, Integer as I, Number as N, Word as W}
 use Rattle.law.specs.declared.Rules.the-variants.{Idf3}
 
--- how many numbers a row has
+-- how many numbers a record has: its kind and nine columns
 abbrev pub width : ℕ
 width = 10
+
+-- how many numbers of a slice a row takes
+abbrev pub stride : ℕ
+stride = 10
+
+-- how many rows n numbers hold
+abbrev pub capacity : ℕ → ℕ
+capacity n = n / stride
 
 abbrev pub isNumber : FieldType → Bool
 isNumber (T k) = false
@@ -50,7 +58,7 @@ pub data RowsMean (file : List ℕ) : List Rec → List ℤ → Type 0 where
 
 -- the rows of a slice that are whole, one after the other
 abbrev pub whole : List ℤ → List ℤ
-whole rows = take (width * (length rows / width)) rows
+whole rows = take (stride * capacity (length rows)) rows
 
 -- the whole rows of a slice, over the bytes lent with them, mean a list that a file may say
 pub record RowsSay (bytes : List ℕ) (rs : List Rec) (rows : List ℤ) : Type 0 where

@@ -1,5 +1,5 @@
 -- Laws of rows in a lent slice, as the code leaves them.
-use Prim.Native.Nat.{ℕ, _+_, _-_, _/_, _^_, _≤_, _<_}
+use Prim.Native.Nat.{ℕ, _+_, _-_, _^_, _≤_, _<_}
 use mathlib.Core.Path.{_≡_, refl, sym, ap, ap₂, _∙_}
 use mathlib.Core.List.{List, [], _++_, append-assoc}
 use mathlib.Core.Bool.{Bool, true, false, cond, true≢false, false≢true}
@@ -11,7 +11,7 @@ use lib.IntN.{ℤ}
 use lib.ListN.{length, take, drop, length-append, take-append-drop}
 use lib.Seq.{paste, length-paste, take-paste, drop-paste, take-all, drop-drop}
 use Rattle.read.proofs.ReplyLaws.{accepted-small}
-use Rattle.law.specs.Rows.{width}
+use Rattle.law.specs.Rows.{width, stride, capacity}
 use Rattle.walk.specs.declared.Found.{Found}
 use Rattle.walk.specs.declared.Found.the-variants.{Row, Nothing, Refused}
 use Rattle.law.specs.declared.Reply.{Reply}
@@ -25,13 +25,13 @@ use Rattle.read.proofs.RowWidths.{turn-wide, check-counts}
 
 -- one row in the slice, if the line has one
 module _ (rows : List ℤ) (at : ℕ) (t : Turn) (x : Bool) (e : x ≡ isRow (t .found)) where
-  pub place-room : RowRoom rows at t → x ≡ true → at + width ≤ length rows
+  pub place-room : RowRoom rows at t → x ≡ true → at + stride ≤ length rows
   place-room h i = h .fits (sym e ∙ i)
 
-  pub place-fits : RowRoom rows at t → x ≡ true → length rows < 2 ^ 64 → Fits w64 (at + 10)
+  pub place-fits : RowRoom rows at t → x ≡ true → length rows < 2 ^ 64 → Fits w64 (at + stride)
   place-fits h i k = omega (arith, place-room h i)
 
-  pub behind-row : x ≡ true → at + 10 ≡ placeBehind at t
+  pub behind-row : x ≡ true → at + stride ≡ placeBehind at t
   unfolding placeBehind
   behind-row i = rw (sym e ∙ i)
 
@@ -114,7 +114,7 @@ module _ (file : List ℕ) (old rows : List ℤ) (w : Walk) (at n : ℕ) (s : Pl
     row-left : isRow (t .found) ≡ true → rowsIn (traceAt file w) ≡ t .row ++ rowsIn (traceAt file (t .walk))
     row-left i = left ∙ rows-row (w .line) (t .row) (traceAt file (t .walk)) (t .found) i
 
-    row-room : isRow (t .found) ≡ true → n + width ≤ length rows
+    row-room : isRow (t .found) ≡ true → n + stride ≤ length rows
     row-room i = let f = s .fits in omega (arith, ap length (row-left i), length-append (t .row) (rowsIn (traceAt file (t .walk))), wide)
 
     pub turn-room : RowRoom rows n t
@@ -124,7 +124,7 @@ module _ (file : List ℕ) (old rows : List ℤ) (w : Walk) (at n : ℕ) (s : Pl
       pub place-stop : y ≡ true → rows ≡ over (rowsOf file) old
       place-stop j = all-placed (left ∙ rows-stop (w .line) (t .row) (traceAt file (t .walk)) (t .found) (sym i ∙ j))
 
-      with-row : isRow (t .found) ≡ true → Placing file old (paste rows n (t .row) width) (t .walk) (t .walk .at) (n + width)
+      with-row : isRow (t .found) ≡ true → Placing file old (paste rows n (t .row) width) (t .walk) (t .walk .at) (n + stride)
       with-row k =
           let m : width ≤ length (t .row) = omega (arith, wide) in
           let p : length (paste rows n (t .row) width) ≡ length rows = length-paste rows n (t .row) width (row-room k) m in
@@ -146,7 +146,7 @@ module _ (file : List ℕ) (old rows : List ℤ) (w : Walk) (at n : ℕ) (s : Pl
       unfolding placeBehind placedAt
       place-more m next j a b = rw (a, b) (go (isRow (t .found)) refl)
         where
-          go : (x : Bool) → isRow (t .found) ≡ x → Placing file old (cond x (paste rows n (t .row) width) rows) (t .walk) (t .walk .at) (cond x (n + width) n)
+          go : (x : Bool) → isRow (t .found) ≡ x → Placing file old (cond x (paste rows n (t .row) width) rows) (t .walk) (t .walk .at) (cond x (n + stride) n)
           go true k = with-row k
           go false k = with-none j k
 
@@ -164,22 +164,24 @@ module _ (file : List ℕ) (rows : List ℤ) (c : Reply) (e : c ≡ checkReply f
     pub read-small : length file ≤ limit
     read-small = accepted-small file c e h
 
-    pub read-short : length rows / 10 < c .count → reply 2 0 (c .count) ≡ readReply file (length rows)
-    unfolding readReply
-    read-short i = rw (sym e, eq-eqb (c .number) 0 h, lt-ltb (length rows / width) (c .count) i)
-
-    pub kept-short : length rows / 10 < c .count → rows ≡ readRows file rows
-    unfolding readRows
-    kept-short i = rw (sym (read-short i))
-
-    module _ (i : c .count ≤ length rows / 10) where
-      pub read-room : length (rowsOf file) ≤ length rows
-      read-room = let k = check-counts file c e h in omega arith
-
-      pub read-whole : c ≡ readReply file (length rows)
+    -- where the slice holds n rows
+    module _ (n : ℕ) (d : n ≡ capacity (length rows)) where
+      pub read-short : n < c .count → reply 2 0 (c .count) ≡ readReply file (length rows)
       unfolding readReply
-      read-whole = rw (sym e, eq-eqb (c .number) 0 h, le-ltb (length rows / width) (c .count) i)
+      read-short i = rw (sym e, eq-eqb (c .number) 0 h, sym d, lt-ltb n (c .count) i)
 
-      pub put-whole : (y : List ℤ) → y ≡ over (rowsOf file) rows → y ≡ readRows file rows
+      pub kept-short : n < c .count → rows ≡ readRows file rows
       unfolding readRows
-      put-whole y k = rw (sym read-whole, eq-eqb (c .number) 0 h) k
+      kept-short i = rw (sym (read-short i))
+
+      module _ (i : c .count ≤ n) where
+        pub read-room : length (rowsOf file) ≤ length rows
+        read-room = let k = check-counts file c e h in omega arith
+
+        pub read-whole : c ≡ readReply file (length rows)
+        unfolding readReply
+        read-whole = rw (sym e, eq-eqb (c .number) 0 h, sym d, le-ltb n (c .count) i)
+
+        pub put-whole : (y : List ℤ) → y ≡ over (rowsOf file) rows → y ≡ readRows file rows
+        unfolding readRows
+        put-whole y k = rw (sym read-whole, eq-eqb (c .number) 0 h) k

@@ -15,7 +15,7 @@ use Rattle.law.specs.declared.Context.{Context}
 use Rattle.law.specs.declared.Rules.{Rules}
 use Rattle.law.specs.declared.Rules.the-variants.{Idf3}
 use Rattle.law.specs.declared.FieldType.{FieldType}
-use Rattle.law.specs.Rows.{width}
+use Rattle.law.specs.Rows.{width, stride}
 use Rattle.line_rows.specs.Rows.{putEntry, entryAt, begun as firstly, fillFrom, filled}
 use Rattle.line_rows.specs.declared.Entry.{Entry}
 use Rattle.line_rows.specs.declared.Entry.the-variants.{Number, Word, Text, Refused as NoEntry}
@@ -144,7 +144,7 @@ counts-end r w = go (accepting (w .state))
     go false h = absurd (omega arith)
 
 abbrev Long : Reply → Trace → Type 0
-Long r x = surveyed r x .number ≡ 0 → width * r .count + length (rowsIn x) ≡ width * surveyed r x .count
+Long r x = surveyed r x .number ≡ 0 → stride * r .count + length (rowsIn x) ≡ stride * surveyed r x .count
 
 rows-long : (n : ℕ) (file : List ℕ) (r : Reply) (w : Walk) → Long r (traceIn n file w)
 unfolding traceIn surveyed rowsIn
@@ -163,12 +163,12 @@ rows-long (suc n) file r w h = go (ltb (w .at) (length file)) (λ q. rows-long n
     go true ih h = found (t .found) refl ih h
     go false ih h = let k = counts-end r w h in omega arith
 
-pub check-counts : (file : List ℕ) (r : Reply) → r ≡ checkReply file → r .number ≡ 0 → length (rowsOf file) ≡ width * r .count
+pub check-counts : (file : List ℕ) (r : Reply) → r ≡ checkReply file → r .number ≡ 0 → length (rowsOf file) ≡ stride * r .count
 unfolding checkReply traceAt
 check-counts file r e h = rw e (go (ltb limit (length file)) (eqb (repeatOf file) 0) (rw e at h))
   where
     go : (a b : Bool) → cond a (reply 1 0 0) (cond b (survey file) (reply 12 (repeatOf file) 0)) .number ≡ 0
-        → length (rowsOf file) ≡ width * cond a (reply 1 0 0) (cond b (survey file) (reply 12 (repeatOf file) 0)) .count
+        → length (rowsOf file) ≡ stride * cond a (reply 1 0 0) (cond b (survey file) (reply 12 (repeatOf file) 0)) .count
     go true b i = absurd (omega arith)
     go false true i = let k = rows-long (length file - 0) file (reply 0 0 0) begun i in omega arith
     go false false i = absurd (omega arith)

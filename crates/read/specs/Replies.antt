@@ -1,5 +1,5 @@
 -- What `check` and `read` answer, and what `read` leaves in the slice.
-use Prim.Native.Nat.{ℕ, _+_, _/_, _≤_}
+use Prim.Native.Nat.{ℕ, _+_, _≤_}
 use mathlib.Core.Path.{_≡_}
 use mathlib.Core.List.{List, [], _++_}
 use mathlib.Core.Bool.{true, cond}
@@ -7,7 +7,7 @@ use lib.Dec.{ltb, eqb}
 use lib.IntN.{ℤ}
 use lib.ListN.{length}
 use lib.Seq.{paste}
-use Rattle.law.specs.Rows.{width}
+use Rattle.law.specs.Rows.{width, stride, capacity}
 use Rattle.order.specs.Automaton.{accepting, typeAt}
 use Rattle.walk.specs.declared.Found.{Found}
 use Rattle.walk.specs.declared.Found.the-variants.{Row, Nothing, Refused}
@@ -81,17 +81,17 @@ rowsOf file = rowsIn (traceOf file)
 unfoldable pub readReply : List ℕ → ℕ → Reply
 readReply file room =
     let r = checkReply file in
-    cond (eqb (r .number) 0) (cond (ltb (room / width) (r .count)) (reply 2 0 (r .count)) r) r
+    cond (eqb (r .number) 0) (cond (ltb (capacity room) (r .count)) (reply 2 0 (r .count)) r) r
 
 -- a slice with the row of a line from a place on, if it has one; the place behind it; the room for it
 unfoldable pub placedAt : List ℤ → ℕ → Turn → List ℤ
 placedAt rows at t = cond (isRow (t .found)) (paste rows at (t .row) width) rows
 
 unfoldable pub placeBehind : ℕ → Turn → ℕ
-placeBehind at t = cond (isRow (t .found)) (at + width) at
+placeBehind at t = cond (isRow (t .found)) (at + stride) at
 
 pub record RowRoom (rows : List ℤ) (at : ℕ) (t : Turn) : Type 0 where
-  pub fits : isRow (t .found) ≡ true → at + width ≤ length rows
+  pub fits : isRow (t .found) ≡ true → at + stride ≤ length rows
 
 -- the rows in front of what was there; on every refusal what was there
 unfoldable pub readRows : List ℕ → List ℤ → List ℤ

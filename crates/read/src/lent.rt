@@ -1,4 +1,5 @@
 // Rows into a lent slice.
+use rows::STRIDE;
 use rows::WIDTH;
 use walk::Turn;
 use walk::steps;
@@ -33,7 +34,7 @@ fn put_turn(rows: &mut [i64], at: usize, t: Turn) -> usize
     let row = t.row;
     if steps::is_row(found) {
         put_row(rows, at, row);
-        return at + WIDTH;
+        return at + STRIDE;
     }
     at
 }

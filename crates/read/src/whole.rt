@@ -9,7 +9,6 @@ use names::FEW;
 use names::MARKS;
 use names::SMALL;
 use order::LIMIT;
-use rows::WIDTH;
 use walk::Found;
 use walk::Walk;
 use walk::steps;
@@ -179,7 +178,7 @@ pub fn read(file: &[u8], rows: &mut [i64]) -> Reply
     if r.number != 0 {
         return r;
     }
-    if ((rows.len() / WIDTH) as u64) < r.count {
+    if (rows::capacity(rows.len()) as u64) < r.count {
         return Reply {
             number: refusals::FEW_ROWS,
             line: 0,

@@ -8,11 +8,15 @@ use number::LengthAnswer;
 ghost use mathlib.Core.Path.{_≡_};
 ghost use Rattle.basics.specs.Integers.{eqZ};
 ghost use Rattle.law.specs.Records.{isLibrary};
+ghost use Rattle.law.specs.Rows.{capacity};
 ghost use Rattle.rows.specs.Columns.{columnAt, kindColumn, lengthIn, includedIn, pointIn, typeInRow};
 ghost use Rattle.rows.specs.RowKinds.{leadsComponent, componentKind};
 
-// How many numbers a row has.
+// How many numbers a record has: its kind and nine columns.
 pub const WIDTH: usize = 10;
+
+// How many numbers of a slice a row takes.
+pub const STRIDE: usize = 10;
 
 // Kinds of rows: the first line of a placement, the leading lines of components; and the last there is.
 pub const PART: i64 = 131;
@@ -59,6 +63,13 @@ pub struct Point {
     pub x: Length,
     pub y: Length,
     pub angle: Angle,
+}
+
+// How many rows a slice of n numbers holds.
+pub fn capacity(n: usize) -> usize
+    ensures { λ r. ⌜ r ≡ capacity n ⌝ }
+{
+    n / STRIDE
 }
 
 // A column of a row, 0 past its last.

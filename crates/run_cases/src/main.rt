@@ -16,7 +16,8 @@
 mod printed;
 
 use law::Reply;
-use rows::WIDTH;
+use rows::STRIDE;
+use rows::capacity;
 use run::cases;
 use run::cases::HEADER;
 use run::cases::Totals;
@@ -29,7 +30,7 @@ use run::saying;
 fn read(file: &[u8], expected: Reply, numbers: &mut [i64]) -> bool {
     let came = read::whole::read(file, numbers);
     let agree = saying::replies(came, expected);
-    let n = lent::handed_out(came, numbers.len() / WIDTH) * WIDTH;
+    let n = lent::handed_out(came, capacity(numbers.len())) * STRIDE;
     printed::say(&numbers[0..n]);
     let kept = lent::numbers_untouched(&numbers[n..]);
     saying::kept(kept);

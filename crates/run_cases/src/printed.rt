@@ -1,10 +1,10 @@
 // Rows as they are printed.
-use rows::WIDTH;
+use rows::STRIDE;
 use run::saying;
 
 // Prints what stands behind the number at a place: a line's end behind each row.
 fn gap(i: usize) {
-    if i % WIDTH == WIDTH - 1 {
+    if i % STRIDE == STRIDE - 1 {
         saying::end_line();
     } else {
         saying::say(b" ");

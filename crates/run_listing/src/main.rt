@@ -1,6 +1,7 @@
 // The canonical printer: prints the canonical text of the file on standard input, or number, line and count of its refusal.
 use law::Reply;
-use rows::WIDTH;
+use rows::STRIDE;
+use rows::capacity;
 use run::lent;
 use run::saying;
 
@@ -40,13 +41,13 @@ fn list_read(r: Reply, rows: &[i64], file: &[u8]) {
     if r.number != 0 {
         return say_reply(r);
     }
-    let n = lent::handed_out(r, rows.len() / WIDTH) * WIDTH;
+    let n = lent::handed_out(r, capacity(rows.len())) * STRIDE;
     list_rows(&rows[0..n], file);
 }
 
 // Prints a file.
 fn list(file: &[u8]) {
-    let mut rows = [0i64; ROWS * WIDTH];
+    let mut rows = [0i64; ROWS * STRIDE];
     let r = read::whole::read(file, &mut rows);
     list_read(r, &rows, file);
 }

@@ -1,5 +1,5 @@
 // Edits of the rows that a file gave.
-use rows::WIDTH;
+use rows::STRIDE;
 use run::columns;
 ghost use Prim.Native.Nat.{_<_};
 
@@ -20,7 +20,7 @@ fn put_each(rows: &mut [i64], first: usize, last: usize, z: i64)
     let mut at = first;
     while at <= last {
         put(rows, at, z);
-        at += WIDTH;
+        at += STRIDE;
     }
 }
 
@@ -35,7 +35,7 @@ fn place(row: usize, column: usize) -> usize
     if column == 0 {
         return 0;
     }
-    (row - 1) * WIDTH + column - 1
+    (row - 1) * STRIDE + column - 1
 }
 
 // Makes an edit.

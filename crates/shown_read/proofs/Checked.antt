@@ -14,7 +14,7 @@ use Rattle.text.proofs.LineSpelling.{lines-sound, lines-complete}
 use Rattle.law.specs.Values.{Rec}
 use Rattle.law.specs.declared.Rules.{Rules}
 use Rattle.law.specs.declared.Rules.the-variants.{Idf3}
-use Rattle.law.specs.Rows.{width, RowsMean}
+use Rattle.law.specs.Rows.{stride, RowsMean}
 use Rattle.order.specs.Automaton.{start, accepting}
 use Rattle.order.specs.declared.State.{State}
 use Rattle.law.specs.Answers.{limit, reply}
@@ -41,7 +41,7 @@ module _ (file : List ℕ) where
   pub check-rows : {rs : List Rec} → FileSays Idf3 rs file → RowsMean file rs (rowsOf file)
   check-rows {rs} s = let w = accepted-exactly Idf3 file rs .1 s in rows-told file rs (w .0) (w .1)
 
-  pub check-long : {rs : List Rec} → FileSays Idf3 rs file → length (rowsOf file) ≡ width * length rs
+  pub check-long : {rs : List Rec} → FileSays Idf3 rs file → length (rowsOf file) ≡ stride * length rs
   check-long s = rows-long (check-rows s)
 
   -- a file over the limit is answered 1, whatever it says

@@ -12,7 +12,7 @@ use Rattle.law.specs.Values.{Value, Rec}
 use Rattle.law.specs.Layouts.{typesOf}
 use Rattle.law.specs.declared.Rules.the-variants.{Idf3}
 use Rattle.law.specs.declared.FieldType.{FieldType}
-use Rattle.law.specs.Rows.{width, Holds, RowsMean}
+use Rattle.law.specs.Rows.{width, stride, Holds, RowsMean}
 use Rattle.line_rows.proofs.MeaningLaws.{means-one, means-wide}
 use Rattle.law.specs.Records.{Named}
 use Rattle.order.specs.Automaton.{start, repeats, noted}
@@ -59,7 +59,7 @@ module _ (file : List ℕ) where
 pub row-wide : {file : List ℕ} {k : ℕ} {ts : List FieldType} {x : List ℤ} {vs : List Value} → Holds file k ts x vs → length x ≡ width
 row-wide h = rw (h .is) (omega (arith, h .ten, length-append (h .columns) (replicate (h .left) (pos 0)), length-replicate (h .left) (pos 0)))
 
-pub rows-long : {file : List ℕ} {rs : List Rec} {xs : List ℤ} → RowsMean file rs xs → length xs ≡ width * length rs
+pub rows-long : {file : List ℕ} {rs : List Rec} {xs : List ℤ} → RowsMean file rs xs → length xs ≡ stride * length rs
 rows-long rows.none = refl
 rows-long (rows.row {x = x} {xs = xs} h m) = omega (arith, row-wide h, rows-long m, length-append x xs)
 

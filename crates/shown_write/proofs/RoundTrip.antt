@@ -1,5 +1,5 @@
 -- The canonical text of a permitted list is a file that says it, so writing and reading give the list and the text back.
-use Prim.Native.Nat.{ℕ, _*_, _/_, _≤_}
+use Prim.Native.Nat.{ℕ, _*_, _≤_}
 use mathlib.Core.Path.{_≡_, refl, sym, ap, _∙_, subst}
 use mathlib.Core.Logic.{_↔_}
 use mathlib.Core.List.{List, _++_, append-nil}
@@ -10,7 +10,7 @@ use lib.Seq.{take-at}
 use Rattle.law.specs.Values.{Rec}
 use Rattle.law.specs.declared.Rules.{Rules}
 use Rattle.law.specs.declared.Rules.the-variants.{Idf3}
-use Rattle.law.specs.Rows.{width, RowsMean, RowsSay}
+use Rattle.law.specs.Rows.{stride, capacity, RowsMean, RowsSay}
 use Rattle.law.specs.Lists.{Permitted, Distinct}
 use Rattle.law.specs.Answers.{limit, reply}
 use Rattle.read.specs.Replies.{checkReply, rowsOf, readRows}
@@ -57,8 +57,8 @@ file-rows file s = record { means = all-whole file (check-rows file s); permitte
 
 module _ (file : List ℕ) {rs : List Rec} (s : FileSays Idf3 rs file) where
   -- what `read` leaves in front of a slice with room for it are the file's rows
-  pub read-front : length file ≤ limit → (old : List ℤ) → length rs ≤ length old / width → take (width * length rs) (readRows file old) ≡ rowsOf file
-  read-front h old i = rw (read-puts file h s old i) (take-at (rowsOf file) (drop (length (rowsOf file)) old) (width * length rs) (check-long file s))
+  pub read-front : length file ≤ limit → (old : List ℤ) → length rs ≤ capacity (length old) → take (stride * length rs) (readRows file old) ≡ rowsOf file
+  read-front h old i = rw (read-puts file h s old i) (take-at (rowsOf file) (drop (length (rowsOf file)) old) (stride * length rs) (check-long file s))
 
   pub write-read-text : length (canonicalText Idf3 rs) ≤ limit → (old : List ℕ) → length (canonicalText Idf3 rs) ≤ length old
       → (writeReply (rowsOf file) file (length old) ≡ reply 0 0 (length (canonicalText Idf3 rs)))

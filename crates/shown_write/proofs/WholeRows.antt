@@ -1,5 +1,5 @@
 -- The whole rows of a slice, one after the other or each of its own, mean the same lists, and their canonical text is that of the list.
-use Prim.Native.Nat.{ℕ, zero, suc, _+_, _*_, _/_, _≤_}
+use Prim.Native.Nat.{ℕ, zero, suc, _+_, _*_, _≤_}
 use mathlib.Core.Path.{_≡_, refl, sym, ap, _∙_, subst}
 use mathlib.Core.List.{List, [], _++_}
 use native.Mathlib.Omega.{arith}
@@ -10,7 +10,7 @@ use Rattle.law.specs.Values.{Rec}
 use Rattle.law.specs.Layouts.{typesOf}
 use Rattle.law.specs.declared.Rules.{Rules}
 use Rattle.law.specs.declared.Rules.the-variants.{Idf3}
-use Rattle.law.specs.Rows.{width, Holds, RowsMean, whole}
+use Rattle.law.specs.Rows.{width, stride, capacity, Holds, RowsMean, whole}
 use Rattle.write_columns.proofs.HeldRecords.{held-is}
 use Rattle.write_lines.specs.LineText.{anywhere, lineText}
 use Rattle.write.specs.WholeRows.{chunks, wholeRows}
@@ -34,64 +34,64 @@ module _ (v : Rules) (bytes : List ℕ) where
   list-text (more {r = r} {x = x} h m) = rw (held-is (anywhere v) bytes x r h, list-text m)
 
 -- n rows and what follows them
-chunk-take : (n : ℕ) (zs : List ℤ) → take (width * suc n) zs ≡ take width zs ++ take (width * n) (drop width zs)
-chunk-take n zs = let e : width * suc n ≡ width + width * n = omega arith in ap (λ (k : ℕ). take k zs) e ∙ take-add width (width * n) zs
+chunk-take : (n : ℕ) (zs : List ℤ) → take (stride * suc n) zs ≡ take stride zs ++ take (stride * n) (drop stride zs)
+chunk-take n zs = let e : stride * suc n ≡ stride + stride * n = omega arith in ap (λ (k : ℕ). take k zs) e ∙ take-add stride (stride * n) zs
 
-module _ (n : ℕ) (zs : List ℤ) (h : width * suc n ≤ length zs) where
+module _ (n : ℕ) (zs : List ℤ) (h : stride * suc n ≤ length zs) where
   chunk-wide : length (take width zs) ≡ width
   chunk-wide = length-take-le width zs (omega arith)
 
-  chunk-left : width * n ≤ length (drop width zs)
-  chunk-left = omega (arith, length-drop width zs)
+  chunk-left : stride * n ≤ length (drop stride zs)
+  chunk-left = omega (arith, length-drop stride zs)
 
-chunks-wide : (n : ℕ) (zs : List ℤ) → width * n ≤ length zs → Wide (chunks n zs)
+chunks-wide : (n : ℕ) (zs : List ℤ) → stride * n ≤ length zs → Wide (chunks n zs)
 unfolding chunks
 chunks-wide zero zs h = no-row
-chunks-wide (suc n) zs h = a-row (chunk-wide n zs h) (chunks-wide n (drop width zs) (chunk-left n zs h))
+chunks-wide (suc n) zs h = a-row (chunk-wide n zs h) (chunks-wide n (drop stride zs) (chunk-left n zs h))
 
-whole-most : (zs : List ℤ) → width * (length zs / width) ≤ length zs
+whole-most : (zs : List ℤ) → stride * (capacity (length zs)) ≤ length zs
 whole-most zs = omega arith
 
 pub whole-wide : (zs : List ℤ) → Wide (wholeRows zs)
 unfolding wholeRows
-whole-wide zs = chunks-wide (length zs / width) zs (whole-most zs)
+whole-wide zs = chunks-wide (capacity (length zs)) zs (whole-most zs)
 
 module _ (bytes : List ℕ) where
   nothing-left : {rs : List Rec} {ys : List ℤ} → RowsMean bytes rs ys → ys ≡ [] → ListMeans Idf3 bytes rs []
   nothing-left rows.none e = none
   nothing-left (rows.row {x = x} {xs = xs} h m) e = absurd (omega (arith, row-wide h, ap length e, length-append x xs))
 
-  parted : (n : ℕ) (zs : List ℤ) {rs : List Rec} {ys : List ℤ} → width * n ≤ length zs → RowsMean bytes rs ys → ys ≡ take (width * n) zs → ListMeans Idf3 bytes rs (chunks n zs)
+  parted : (n : ℕ) (zs : List ℤ) {rs : List Rec} {ys : List ℤ} → stride * n ≤ length zs → RowsMean bytes rs ys → ys ≡ take (stride * n) zs → ListMeans Idf3 bytes rs (chunks n zs)
   unfolding chunks
   parted zero zs h m e = nothing-left m e
   parted (suc n) zs h rows.none e =
       let f = ap length (e ∙ chunk-take n zs) in
-      absurd (omega (arith, f, chunk-wide n zs h, length-append (take width zs) (take (width * n) (drop width zs))))
+      absurd (omega (arith, f, chunk-wide n zs h, length-append (take width zs) (take (stride * n) (drop stride zs))))
   parted (suc n) zs h (rows.row {r = r} {x = x} {xs = xs} g m) e =
       let f = e ∙ chunk-take n zs in
       let l : length x ≡ length (take width zs) = row-wide g ∙ sym (chunk-wide n zs h) in
-      let i = columns-one x (take width zs) xs (take (width * n) (drop width zs)) l f in
-      let j = rest-one x (take width zs) xs (take (width * n) (drop width zs)) l f in
-      more (subst (λ (z : List ℤ). Holds bytes (r .kind) (typesOf Idf3 (r .kind)) z (r .values)) i g) (parted n (drop width zs) (chunk-left n zs h) m j)
+      let i = columns-one x (take width zs) xs (take (stride * n) (drop stride zs)) l f in
+      let j = rest-one x (take width zs) xs (take (stride * n) (drop stride zs)) l f in
+      more (subst (λ (z : List ℤ). Holds bytes (r .kind) (typesOf Idf3 (r .kind)) z (r .values)) i g) (parted n (drop stride zs) (chunk-left n zs h) m j)
 
-  chained : (n : ℕ) (zs : List ℤ) {rs : List Rec} {xs : List (List ℤ)} → width * n ≤ length zs → xs ≡ chunks n zs → ListMeans Idf3 bytes rs xs → RowsMean bytes rs (take (width * n) zs)
+  chained : (n : ℕ) (zs : List ℤ) {rs : List Rec} {xs : List (List ℤ)} → stride * n ≤ length zs → xs ≡ chunks n zs → ListMeans Idf3 bytes rs xs → RowsMean bytes rs (take (stride * n) zs)
   unfolding chunks
   chained zero zs h e none = rows.none
   chained zero zs h e (more g m) = absurd (omega (arith, ap length e))
   chained (suc n) zs h e none = absurd (omega (arith, ap length e))
   chained (suc n) zs h e (more {r = r} {x = x} {xs = xs} g m) =
       let i : x ≡ take width zs = cc in
-      let j : xs ≡ chunks n (drop width zs) = cc in
-      rw (chunk-take n zs) (rows.row (rw i at g) (chained n (drop width zs) (chunk-left n zs h) j m))
+      let j : xs ≡ chunks n (drop stride zs) = cc in
+      rw (chunk-take n zs) (rows.row (rw i at g) (chained n (drop stride zs) (chunk-left n zs h) j m))
 
   pub whole-list : (zs : List ℤ) {rs : List Rec} → RowsMean bytes rs (whole zs) → ListMeans Idf3 bytes rs (wholeRows zs)
   unfolding wholeRows
-  whole-list zs m = parted (length zs / width) zs (whole-most zs) m refl
+  whole-list zs m = parted (capacity (length zs)) zs (whole-most zs) m refl
 
   pub list-whole : (zs : List ℤ) {rs : List Rec} → ListMeans Idf3 bytes rs (wholeRows zs) → RowsMean bytes rs (whole zs)
   unfolding wholeRows
-  list-whole zs m = chained (length zs / width) zs (whole-most zs) refl m
+  list-whole zs m = chained (capacity (length zs)) zs (whole-most zs) refl m
 
   -- rows with nothing behind them are whole
   pub all-whole : {rs : List Rec} {zs : List ℤ} → RowsMean bytes rs zs → RowsMean bytes rs (whole zs)
-  all-whole {rs} {zs} m = let e : whole zs ≡ zs = take-all (width * (length zs / width)) zs (omega (arith, rows-long m)) in rw e m
+  all-whole {rs} {zs} m = let e : whole zs ≡ zs = take-all (stride * (capacity (length zs))) zs (omega (arith, rows-long m)) in rw e m

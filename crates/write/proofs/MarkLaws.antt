@@ -1,5 +1,5 @@
 -- Laws of names used twice among rows, found by marks from the last row back.
-use Prim.Native.Nat.{ℕ, zero, suc, _+_, _-_, _/_, _≤_, _<_}
+use Prim.Native.Nat.{ℕ, zero, suc, _+_, _-_, _≤_, _<_}
 use mathlib.Core.Path.{_≡_, refl, sym, ap, ap₂, _∙_}
 use mathlib.Core.List.{List, [], _∷_}
 use mathlib.Core.Bool.{Bool, true, false, not, _&&_, _||_}
@@ -14,6 +14,7 @@ use Rattle.basics.proofs.Bools.{or-left, or-right}
 use Rattle.names_slots.specs.Marks.{mayHold}
 use Rattle.names.specs.Marks.{heldIf, markedIf}
 use Rattle.names.proofs.KeyLaws.{marked-if-length, marked-keeps, marked-here, marked-not, not-used, among-all, asked-used, asked-not}
+use Rattle.law.specs.Rows.{capacity}
 use Rattle.write.specs.WholeRows.{wholeRows, rowIn}
 use Rattle.write.specs.Writable.{namesIt, namedIn, twice}
 use Rattle.write.specs.Marks.{againAmong, twiceAmong, Told, Doubted}
@@ -63,19 +64,19 @@ module _ (bytes : List ℕ) (p : ℕ → Bool) (ys : List (List ℤ)) (marks : L
     }
 
 -- the rows from a number on, with the one before it
-module _ (rows : List ℤ) (i : ℕ) (h : 0 < i) (w : i ≤ length rows / 10) (row : List ℤ) (a : row ≡ rowIn rows (i - 1)) where
+module _ (rows : List ℤ) (i : ℕ) (h : 0 < i) (w : i ≤ capacity (length rows)) (row : List ℤ) (a : row ≡ rowIn rows (i - 1)) where
   behind : drop (i - 1) (wholeRows rows) ≡ row ∷ drop i (wholeRows rows)
   behind =
       let z : i - 1 + 1 ≡ i = omega arith in
-      let k : i - 1 < length rows / 10 = omega arith in
+      let k : i - 1 < capacity (length rows) = omega arith in
       row-here rows (i - 1) k ∙ rw (a, z)
 
-all-behind : (rows : List ℤ) → drop (length rows / 10) (wholeRows rows) ≡ []
-all-behind rows = row-none rows (length rows / 10) (omega arith)
+all-behind : (rows : List ℤ) → drop (capacity (length rows)) (wholeRows rows) ≡ []
+all-behind rows = row-none rows (capacity (length rows)) (omega arith)
 
 -- a walk back that marks every name, and among the doubtful those that may have come behind; d tells whether there were any
 pub record Doubting (rows : List ℤ) (bytes marks₀ marks ds₀ ds : List ℕ) (i : ℕ) (d : Bool) : Type 0 where
-  within : i ≤ length rows / 10
+  within : i ≤ capacity (length rows)
   told : Clear bytes (λ (q : ℕ). true) (drop i (wholeRows rows)) marks
   room : 0 < length ds
   among : (es : List ℕ) → ((q : ℕ) → mayHold es q ≡ false → mayHold ds q ≡ false) → twiceAmong bytes es (drop i (wholeRows rows)) ≡ twice bytes (drop i (wholeRows rows))
@@ -83,14 +84,14 @@ pub record Doubting (rows : List ℤ) (bytes marks₀ marks ds₀ ds : List ℕ)
   long : length marks ≡ length marks₀
   wide : length ds ≡ length ds₀
 
-pub doubt-start : (rows : List ℤ) (bytes marks ds : List ℕ) → 0 < length marks → 0 < length ds → Doubting rows bytes marks marks ds ds (length rows / 10) false
+pub doubt-start : (rows : List ℤ) (bytes marks ds : List ℕ) (n : ℕ) → 0 < length marks → 0 < length ds → n ≡ capacity (length rows) → Doubting rows bytes marks marks ds ds n false
 unfolding twice twiceAmong namedIn
-doubt-start rows bytes marks ds k l = record {
-  within = omega arith;
-  told = record { room = k; clear = λ x a h. rw (all-behind rows) };
+doubt-start rows bytes marks ds n k l e = record {
+  within = omega (arith, e);
+  told = record { room = k; clear = λ x a h. rw (e, all-behind rows) };
   room = l;
-  among = λ es c. rw (all-behind rows);
-  none = λ e. rw (all-behind rows);
+  among = λ es c. rw (e, all-behind rows);
+  none = λ q. rw (e, all-behind rows);
   long = refl;
   wide = refl;
 }
@@ -120,7 +121,7 @@ module _ (rows : List ℤ) (bytes marks₀ marks ds₀ ds : List ℕ) (i : ℕ) 
       record { among = rw e at (s .among ds (λ q c. c)); none = λ k. rw e at (s .none k) }
 
   module _ (h : 0 < i) where
-    pub doubt-within : i - 1 < length rows / 10
+    pub doubt-within : i - 1 < capacity (length rows)
     doubt-within = let w = s .within in omega arith
 
     module _ (row : List ℤ) (a : row ≡ rowIn rows (i - 1)) where
@@ -171,19 +172,19 @@ twice-behind bytes ds (suc i) (x ∷ xs) h = go (againAmong bytes ds x xs) (twic
 
 -- a walk back that decides on doubtful names
 pub record Pairing (rows : List ℤ) (bytes ds marks₀ marks : List ℕ) (i : ℕ) : Type 0 where
-  within : i ≤ length rows / 10
+  within : i ≤ capacity (length rows)
   few : 0 < length ds
   none : twiceAmong bytes ds (drop i (wholeRows rows)) ≡ false
   told : Clear bytes (mayHold ds) (drop i (wholeRows rows)) marks
   long : length marks ≡ length marks₀
 
-pub pair-start : (rows : List ℤ) (bytes ds marks : List ℕ) → 0 < length ds → 0 < length marks → Pairing rows bytes ds marks marks (length rows / 10)
+pub pair-start : (rows : List ℤ) (bytes ds marks : List ℕ) (n : ℕ) → 0 < length ds → 0 < length marks → n ≡ capacity (length rows) → Pairing rows bytes ds marks marks n
 unfolding twiceAmong namedIn
-pair-start rows bytes ds marks k l = record {
-  within = omega arith;
+pair-start rows bytes ds marks n k l e = record {
+  within = omega (arith, e);
   few = k;
-  none = rw (all-behind rows);
-  told = record { room = l; clear = λ x a h. rw (all-behind rows) };
+  none = rw (e, all-behind rows);
+  told = record { room = l; clear = λ x a h. rw (e, all-behind rows) };
   long = refl;
 }
 
@@ -201,7 +202,7 @@ module _ (rows : List ℤ) (bytes ds marks₀ marks : List ℕ) (i : ℕ) (s : P
   pair-over h = let e : i ≡ 0 = omega arith in sym (rw e at (s .none))
 
   module _ (h : 0 < i) where
-    pub pair-within : i - 1 < length rows / 10
+    pub pair-within : i - 1 < capacity (length rows)
     pair-within = let w = s .within in omega arith
 
     module _ (row : List ℤ) (a : row ≡ rowIn rows (i - 1)) (b : Bool) (e : b ≡ againAmong bytes ds row (drop i (wholeRows rows))) where

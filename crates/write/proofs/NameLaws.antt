@@ -1,5 +1,5 @@
 -- Laws of components by name among rows, as the code leaves them.
-use Prim.Native.Nat.{ℕ, _+_, _/_, _≤_, _<_}
+use Prim.Native.Nat.{ℕ, _+_, _≤_, _<_}
 use mathlib.Core.Path.{_≡_, refl, sym, _∙_}
 use mathlib.Core.List.{List}
 use mathlib.Core.Bool.{Bool, true, false, _||_}
@@ -7,6 +7,7 @@ use lib.IntN.{ℤ}
 use lib.ListN.{length, drop}
 use Rattle.rows_texts.specs.Names.{sameNames}
 use Rattle.rows.specs.RowKinds.{leadsComponent}
+use Rattle.law.specs.Rows.{capacity}
 use Rattle.write.specs.WholeRows.{wholeRows, rowIn}
 use Rattle.write.specs.Writable.{namesIt, namedIn}
 use Rattle.write.proofs.RowLaws.{row-here, row-none}
@@ -28,11 +29,11 @@ pub seek-start : (rows : List ℤ) (bytes : List ℕ) (from : ℕ) (x : List ℤ
 seek-start rows bytes from x = record { left = refl }
 
 module _ (rows : List ℤ) (bytes : List ℕ) (from : ℕ) (x : List ℤ) (i : ℕ) (r : Seeking rows bytes from x i) where
-  pub seek-over : length rows / 10 ≤ i → false ≡ namedIn bytes x (drop from (wholeRows rows))
+  pub seek-over : capacity (length rows) ≤ i → false ≡ namedIn bytes x (drop from (wholeRows rows))
   unfolding namedIn
   seek-over h = rw (row-none rows i h) at (r .left)
 
-  module _ (h : i < length rows / 10) (row : List ℤ) (a : row ≡ rowIn rows i) (b : Bool) (e : b ≡ namesIt bytes x row) where
+  module _ (h : i < capacity (length rows)) (row : List ℤ) (a : row ≡ rowIn rows i) (b : Bool) (e : b ≡ namesIt bytes x row) where
     seek-here : namedIn bytes x (drop i (wholeRows rows)) ≡ (b || namedIn bytes x (drop (i + 1) (wholeRows rows)))
     unfolding namedIn
     seek-here = rw (row-here rows i h, e, a)

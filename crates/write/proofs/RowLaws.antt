@@ -1,5 +1,5 @@
 -- Laws of rows one after the other, as the code leaves them.
-use Prim.Native.Nat.{ℕ, zero, suc, _+_, _*_, _/_, _≤_, _<_}
+use Prim.Native.Nat.{ℕ, zero, suc, _+_, _*_, _≤_, _<_}
 use mathlib.Core.Path.{_≡_, refl, sym, ap, _∙_}
 use mathlib.Core.List.{List, [], _∷_}
 use mathlib.Core.Bool.{Bool, true, false, not, true≢false, false≢true}
@@ -18,7 +18,7 @@ use Rattle.basics.proofs.Integers.{back}
 use Rattle.law.specs.Fits.{under}
 use Rattle.law.specs.declared.Rules.{Rules}
 use Rattle.law.specs.declared.FileType.{FileType}
-use Rattle.law.specs.Rows.{width}
+use Rattle.law.specs.Rows.{width, stride, capacity}
 use Rattle.order.specs.Automaton.{start, accepting, accepted, typeAt, stepped}
 use Rattle.order.specs.declared.State.{State}
 use Rattle.order.specs.declared.Reason.{Reason}
@@ -32,68 +32,76 @@ use Rattle.write.specs.Writable.{rowStep, stoodBy, carries}
 
 -- a row copied number by number
 pub record Copied (rows : List ℤ) (at : ℕ) (row : List ℤ) (k : ℕ) : Type 0 where
-  pub within : k ≤ 10
-  pub long : length row ≡ 10
+  pub within : k ≤ width
+  pub long : length row ≡ width
   pub is : take k row ≡ take k (drop at rows)
 
-pub copy-start : (rows row : List ℤ) (at : ℕ) → length row ≡ 10 → Copied rows at row 0
+pub copy-start : (rows row : List ℤ) (at : ℕ) → length row ≡ width → Copied rows at row 0
 copy-start rows row at e = record { within = omega arith; long = e; is = refl }
 
-module _ (rows row : List ℤ) (i k : ℕ) (r : Copied rows (i * 10) row k) where
-  module _ (q : i < length rows / 10) where
-    whole-in : i * 10 + 10 ≤ length rows
+module _ (rows row : List ℤ) (i k : ℕ) (r : Copied rows (i * stride) row k) where
+  module _ (q : i < capacity (length rows)) where
+    whole-in : i * stride + width ≤ length rows
     whole-in = omega arith
 
-    pub copy-place : k < 10 → i * 10 + k < length rows
+    pub copy-place : k < width → i * stride + k < length rows
     copy-place h = omega (arith, whole-in)
 
-    pub copy-more : k < 10 → SFits w64 (getD rows (i * 10 + k) (pos 0)) → Copied rows (i * 10) (set row k (back (getD rows (i * 10 + k) (pos 0)))) (k + 1)
+    pub copy-more : k < width → SFits w64 (getD rows (i * stride + k) (pos 0)) → Copied rows (i * stride) (set row k (back (getD rows (i * stride + k) (pos 0)))) (k + 1)
     copy-more h f =
-        let x = getD rows (i * 10 + k) (pos 0) in
-        let m : k < length (drop (i * 10) rows) = omega (arith, length-drop (i * 10) rows, whole-in) in
+        let x = getD rows (i * stride + k) (pos 0) in
+        let m : k < length (drop (i * stride) rows) = omega (arith, length-drop (i * stride) rows, whole-in) in
         let w : k < length row = omega (arith, r .long) in
         record {
           within = omega arith;
           long = length-set row k (back x) ∙ r .long;
           is =
               ap (λ (n : ℕ). take n (set row k (back x))) (add-one k) ∙ take-suc-set row k (back x) w
-              ∙ rw (toZ-ofZ w64 x f, r .is, sym (getD-drop (i * 10) rows k (pos 0))) (sym (take-suc (drop (i * 10) rows) k (pos 0) m))
-              ∙ ap (λ (n : ℕ). take n (drop (i * 10) rows)) (sym (add-one k));
+              ∙ rw (toZ-ofZ w64 x f, r .is, sym (getD-drop (i * stride) rows k (pos 0))) (sym (take-suc (drop (i * stride) rows) k (pos 0) m))
+              ∙ ap (λ (n : ℕ). take n (drop (i * stride) rows)) (sym (add-one k));
         }
 
-  pub copy-over : 10 ≤ k → row ≡ rowIn rows i
+  pub copy-over : width ≤ k → row ≡ rowIn rows i
   copy-over h =
-      let e : k ≡ 10 = omega (arith, r .within) in
-      let l : length row ≤ 10 = omega (arith, r .long) in
-      sym (take-all 10 row l) ∙ rw e at (r .is)
+      let e : k ≡ width = omega (arith, r .within) in
+      let l : length row ≤ width = omega (arith, r .long) in
+      sym (take-all width row l) ∙ rw e at (r .is)
 
-pub row-place : (rows : List ℤ) (i : ℕ) → i < length rows / 10 → i * 10 + 10 ≤ length rows
+pub row-place : (rows : List ℤ) (i : ℕ) → i < capacity (length rows) → i * stride + width ≤ length rows
 row-place rows i h = omega arith
 
+-- a number of rows, as the code asks for it
+module _ (rows : List ℤ) (n i : ℕ) (e : n ≡ capacity (length rows)) where
+  pub row-in : i < n → i < capacity (length rows)
+  row-in h = rw e at h
+
+  pub rows-over : n ≤ i → capacity (length rows) ≤ i
+  rows-over h = rw e at h
+
 -- rows that are left
-chunks-drop : (i n : ℕ) (zs : List ℤ) → i < n → drop i (chunks n zs) ≡ take width (drop (i * width) zs) ∷ drop (suc i) (chunks n zs)
+chunks-drop : (i n : ℕ) (zs : List ℤ) → i < n → drop i (chunks n zs) ≡ take width (drop (i * stride) zs) ∷ drop (suc i) (chunks n zs)
 unfolding chunks
 chunks-drop zero zero zs h = absurd (omega arith)
 chunks-drop zero (suc n) zs h = refl
 chunks-drop (suc i) zero zs h = absurd (omega arith)
 chunks-drop (suc i) (suc n) zs h =
     let l : i < n = omega arith in
-    let e : width + i * width ≡ suc i * width = omega arith in
-    let d : drop (i * width) (drop width zs) ≡ drop (suc i * width) zs = drop-drop (i * width) width zs ∙ ap (λ (k : ℕ). drop k zs) e in
-    chunks-drop i n (drop width zs) l ∙ ap (λ (x : List ℤ). take width x ∷ drop (suc i) (chunks n (drop width zs))) d
+    let e : stride + i * stride ≡ suc i * stride = omega arith in
+    let d : drop (i * stride) (drop stride zs) ≡ drop (suc i * stride) zs = drop-drop (i * stride) stride zs ∙ ap (λ (k : ℕ). drop k zs) e in
+    chunks-drop i n (drop stride zs) l ∙ ap (λ (x : List ℤ). take width x ∷ drop (suc i) (chunks n (drop stride zs))) d
 
 chunks-long : (n : ℕ) (zs : List ℤ) → length (chunks n zs) ≡ n
 unfolding chunks
 chunks-long zero zs = refl
-chunks-long (suc n) zs = ap suc (chunks-long n (drop width zs))
+chunks-long (suc n) zs = ap suc (chunks-long n (drop stride zs))
 
-pub row-here : (rows : List ℤ) (i : ℕ) → i < length rows / width → drop i (wholeRows rows) ≡ rowIn rows i ∷ drop (i + 1) (wholeRows rows)
+pub row-here : (rows : List ℤ) (i : ℕ) → i < capacity (length rows) → drop i (wholeRows rows) ≡ rowIn rows i ∷ drop (i + 1) (wholeRows rows)
 unfolding wholeRows
-row-here rows i h = rw (add-one i) (chunks-drop i (length rows / width) rows h)
+row-here rows i h = rw (add-one i) (chunks-drop i (capacity (length rows)) rows h)
 
-pub row-none : (rows : List ℤ) (i : ℕ) → length rows / width ≤ i → drop i (wholeRows rows) ≡ []
+pub row-none : (rows : List ℤ) (i : ℕ) → capacity (length rows) ≤ i → drop i (wholeRows rows) ≡ []
 unfolding wholeRows
-row-none rows i h = let l : length (chunks (length rows / width) rows) ≤ i = omega (arith, chunks-long (length rows / width) rows) in drop-of-length-le (chunks (length rows / width) rows) l
+row-none rows i h = let l : length (chunks (capacity (length rows)) rows) ≤ i = omega (arith, chunks-long (capacity (length rows)) rows) in drop-of-length-le (chunks (capacity (length rows)) rows) l
 
 -- what a row does
 module _ (v : Rules) (bytes : List ℕ) (st : State) (row : List ℤ) (f : FileType) (e : f ≡ typeAt st) (x : Bool) (g : x ≡ rowFits (record { rules = v; file = f }) bytes row) where
@@ -133,11 +141,11 @@ pub carry-start : (v : Rules) (rows : List ℤ) (bytes : List ℕ) → Carrying 
 carry-start v rows bytes = record { left = refl }
 
 module _ (v : Rules) (rows : List ℤ) (bytes : List ℕ) (i : ℕ) (st : State) (r : Carrying v rows bytes st i) where
-  pub carry-over : (x : Bool) → length rows / 10 ≤ i → x ≡ accepting st → x ≡ carries v bytes start (wholeRows rows)
+  pub carry-over : (x : Bool) → capacity (length rows) ≤ i → x ≡ accepting st → x ≡ carries v bytes start (wholeRows rows)
   unfolding carries
   carry-over x h e = e ∙ rw (row-none rows i h) at (r .left)
 
-  module _ (h : i < length rows / 10) (row : List ℤ) (a : row ≡ rowIn rows i) (o : Outcome) (b : o ≡ rowStep v bytes st row) (s : Stood) (c : s ≡ stoodBy st o) where
+  module _ (h : i < capacity (length rows)) (row : List ℤ) (a : row ≡ rowIn rows i) (o : Outcome) (b : o ≡ rowStep v bytes st row) (s : Stood) (c : s ≡ stoodBy st o) where
     here : carries v bytes st (drop i (wholeRows rows)) ≡ accepted o (λ t. carries v bytes t (drop (i + 1) (wholeRows rows)))
     unfolding carries
     here = rw (row-here rows i h, b, a)

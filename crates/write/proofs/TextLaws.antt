@@ -1,5 +1,5 @@
 -- Laws of the lines of rows, as the code leaves them: their length up to the limit, and their bytes.
-use Prim.Native.Nat.{ℕ, _+_, _/_, _≤_, _<_}
+use Prim.Native.Nat.{ℕ, _+_, _≤_, _<_}
 use mathlib.Core.Path.{_≡_, refl, sym, ap, _∙_}
 use mathlib.Core.List.{List, [], _++_, append-assoc, append-nil}
 use mathlib.Core.Bool.{true, _&&_}
@@ -15,12 +15,13 @@ use Rattle.law.specs.Answers.{limit}
 use Rattle.write_columns.specs.Columns.{rowFits}
 use Rattle.write_lines.specs.LineText.{lineText, anywhere, upTo}
 use Rattle.write_lines.proofs.PieceLaws.{up-again, up-over, up-in, up-small}
+use Rattle.law.specs.Rows.{capacity}
 use Rattle.write.specs.WholeRows.{wholeRows, rowIn}
 use Rattle.write.specs.Outcomes.{textOf, allFit}
 use Rattle.write.proofs.RowLaws.{row-here, row-none}
 
 -- rows from number i on fit
-module _ (v : Rules) (rows : List ℤ) (bytes : List ℕ) (i : ℕ) (f : allFit v bytes (drop i (wholeRows rows)) ≡ true) (h : i < length rows / 10) (row : List ℤ) (a : row ≡ rowIn rows i) where
+module _ (v : Rules) (rows : List ℤ) (bytes : List ℕ) (i : ℕ) (f : allFit v bytes (drop i (wholeRows rows)) ≡ true) (h : i < capacity (length rows)) (row : List ℤ) (a : row ≡ rowIn rows i) where
   both-fit : rowFits (anywhere v) bytes row && allFit v bytes (drop (i + 1) (wholeRows rows)) ≡ true
   unfolding allFit
   both-fit = rw a (rw (row-here rows i h) at f)
@@ -35,7 +36,7 @@ module _ (v : Rules) (rows : List ℤ) (bytes : List ℕ) (i : ℕ) (f : allFit 
   unfolding textOf
   text-here = rw (row-here rows i h, a)
 
-text-none : (v : Rules) (rows : List ℤ) (bytes : List ℕ) (i : ℕ) → length rows / 10 ≤ i → textOf v bytes (drop i (wholeRows rows)) ≡ []
+text-none : (v : Rules) (rows : List ℤ) (bytes : List ℕ) (i : ℕ) → capacity (length rows) ≤ i → textOf v bytes (drop i (wholeRows rows)) ≡ []
 unfolding textOf
 text-none v rows bytes i h = rw (row-none rows i h)
 
@@ -52,10 +53,10 @@ module _ (v : Rules) (rows : List ℤ) (bytes : List ℕ) (sum i : ℕ) (r : Cou
   pub count-small : sum ≤ limit + 1
   count-small = omega (arith, r .small)
 
-  pub count-over : length rows / 10 ≤ i → sum ≡ upTo (length (textOf v bytes (wholeRows rows)))
+  pub count-over : capacity (length rows) ≤ i → sum ≡ upTo (length (textOf v bytes (wholeRows rows)))
   count-over h = let z : sum ≡ sum + length (textOf v bytes (drop i (wholeRows rows))) = omega (arith, ap length (text-none v rows bytes i h)) in up-in sum (r .small) ∙ ap upTo z ∙ r .left
 
-  module _ (h : i < length rows / 10) (row : List ℤ) (a : row ≡ rowIn rows i) where
+  module _ (h : i < capacity (length rows)) (row : List ℤ) (a : row ≡ rowIn rows i) where
     pub count-fits : rowFits (anywhere v) bytes row ≡ true
     count-fits = row-fit v rows bytes i (r .fit) h row a
 
@@ -90,12 +91,12 @@ module _ (v : Rules) (rows : List ℤ) (bytes o p : List ℕ) (at i : ℕ) (r : 
   pub write-same : length p ≡ length o
   write-same = wrote-length (r .wrote)
 
-  pub write-over : length rows / 10 ≤ i → p ≡ sets o 0 (textOf v bytes (wholeRows rows))
+  pub write-over : capacity (length rows) ≤ i → p ≡ sets o 0 (textOf v bytes (wholeRows rows))
   write-over h =
       let z : r .done ≡ textOf v bytes (wholeRows rows) = sym (append-nil (r .done)) ∙ ap (λ (l : List ℕ). r .done ++ l) (sym (text-none v rows bytes i h)) ∙ r .left in
       r .wrote .is ∙ ap (sets o 0) z
 
-  module _ (h : i < length rows / 10) (row : List ℤ) (a : row ≡ rowIn rows i) where
+  module _ (h : i < capacity (length rows)) (row : List ℤ) (a : row ≡ rowIn rows i) where
     pub write-fits : rowFits (anywhere v) bytes row ≡ true
     write-fits = row-fit v rows bytes i (r .fit) h row a
 

@@ -6,22 +6,23 @@ use order::Outcome;
 use order::Reason;
 use order::Stage;
 use order::State;
+use rows::STRIDE;
 use rows::WIDTH;
 ghost use mathlib.Core.Path.{_≡_};
-ghost use Prim.Native.Nat.{_/_, _<_};
+ghost use Prim.Native.Nat.{_<_};
 ghost use lib.ListN.{length};
-ghost use Rattle.law.specs.Rows.{width};
+ghost use Rattle.law.specs.Rows.{capacity};
 ghost use Rattle.order.specs.Automaton.{start};
 ghost use Rattle.write.specs.WholeRows.{wholeRows, rowIn};
 ghost use Rattle.write.specs.Writable.{rowStep, stoodBy, carries};
 
 // A row, counted from 0.
 pub(crate) fn row_at(rows: &[i64], i: usize) -> [i64; WIDTH]
-    requires { ⌜ i < length (now rows) / width ⌝ }
+    requires { ⌜ i < capacity (length (now rows)) ⌝ }
     ensures { λ r. ⌜ r ≡ rowIn (now (rows .entry)) i ⌝ }
 {
     let mut row = [0; WIDTH];
-    let at = i * WIDTH;
+    let at = i * STRIDE;
     let mut k = 0;
     while k < WIDTH {
         let z = rows[at + k];
@@ -66,7 +67,7 @@ fn stood(st: State, o: Outcome) -> Stood
 pub(crate) fn carry(v: Rules, rows: &[i64], bytes: &[u8]) -> bool
     ensures { λ r. ⌜ r ≡ carries v (now (bytes .entry)) start (wholeRows (now (rows .entry))) ⌝ }
 {
-    let n = rows.len() / WIDTH;
+    let n = rows::capacity(rows.len());
     let mut st = State::Between(Stage::Nothing);
     let mut i = 0;
     while i < n {

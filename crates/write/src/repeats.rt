@@ -33,7 +33,7 @@ fn names_it(bytes: &[u8], x: [i64; WIDTH], y: [i64; WIDTH]) -> bool
 fn named_from(rows: &[i64], bytes: &[u8], from: usize, x: [i64; WIDTH]) -> bool
     ensures { λ r. ⌜ r ≡ namedIn (now (bytes .entry)) x (drop from (wholeRows (now (rows .entry)))) ⌝ }
 {
-    let n = rows.len() / WIDTH;
+    let n = rows::capacity(rows.len());
     let mut i = from;
     while i < n {
         if names_it(bytes, x, carried::row_at(rows, i)) {
@@ -69,7 +69,7 @@ fn twice_among(rows: &[i64], bytes: &[u8], doubts: &[u16], marks: &mut [u16]) ->
     requires { ⌜ (0 < length (now doubts)) × (0 < length (now marks)) ⌝ }
     ensures { λ r. ⌜ r ≡ twiceAmong (now (bytes .entry)) (now (doubts .entry)) (wholeRows (now (rows .entry))) ⌝ }
 {
-    let mut i = rows.len() / WIDTH;
+    let mut i = rows::capacity(rows.len());
     while 0 < i {
         let at = i - 1;
         if names_again(rows, bytes, i, carried::row_at(rows, at), doubts, marks) {
@@ -86,7 +86,7 @@ fn doubted(rows: &[i64], bytes: &[u8], marks: &mut [u16], doubts: &mut [u16]) ->
     requires { ⌜ (0 < length (now marks)) × (0 < length (now doubts)) ⌝ }
     ensures { λ r. ⌜ Doubted (now (bytes .entry)) (now (doubts .exit)) (wholeRows (now (rows .entry))) r ⌝ }
 {
-    let mut i = rows.len() / WIDTH;
+    let mut i = rows::capacity(rows.len());
     let mut doubtful = false;
     while 0 < i {
         let at = i - 1;

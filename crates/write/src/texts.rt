@@ -2,7 +2,6 @@
 use crate::carried;
 use law::Rules;
 use order::LIMIT;
-use rows::WIDTH;
 ghost use mathlib.Core.Path.{_≡_};
 ghost use mathlib.Core.Bool.{true};
 ghost use Prim.Native.Nat.{_≤_};
@@ -17,7 +16,7 @@ pub(crate) fn text_len(v: Rules, rows: &[i64], bytes: &[u8]) -> usize
     requires { ⌜ allFit v (now bytes) (wholeRows (now rows)) ≡ true ⌝ }
     ensures { λ r. ⌜ r ≡ upTo (length (textOf v (now (bytes .entry)) (wholeRows (now (rows .entry))))) ⌝ }
 {
-    let n = rows.len() / WIDTH;
+    let n = rows::capacity(rows.len());
     let mut sum = 0;
     let mut i = 0;
     while i < n {
@@ -35,7 +34,7 @@ pub(crate) fn put_text(out: &mut [u8], v: Rules, rows: &[i64], bytes: &[u8])
     requires { ⌜ (allFit v (now bytes) (wholeRows (now rows)) ≡ true) × (length (textOf v (now bytes) (wholeRows (now rows))) ≤ length (now out)) ⌝ }
     ensures { λ _. ⌜ now (out .exit) ≡ sets (now (out .entry)) 0 (textOf v (now (bytes .entry)) (wholeRows (now (rows .entry)))) ⌝ }
 {
-    let n = rows.len() / WIDTH;
+    let n = rows::capacity(rows.len());
     let mut at = 0;
     let mut i = 0;
     while i < n {

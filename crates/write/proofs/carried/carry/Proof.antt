@@ -1,6 +1,6 @@
 -- `write::carried::carry` meets its contract. Assumes nothing.
 use Prim.Native.Nat.{_-_}
-use Rattle.write.proofs.RowLaws.{Carrying, carry-start, carry-over, carry-stop, carry-more}
+use Rattle.write.proofs.RowLaws.{Carrying, carry-start, carry-over, carry-stop, carry-more, row-in, rows-over}
 use borrow.Author.Needs.{needs}
 use Rattle.write.proofs.carried.carry.Statement.{statement}
 use Rattle.write.proofs.carried.carry.Tie as tie
@@ -11,7 +11,10 @@ Inv-loop v rows bytes n st₀ i₀ st i = Carrying v rows bytes st i
 abbrev μ-loop : tie.MeasureT-loop
 μ-loop v rows bytes n st₀ i₀ st i = n - i
 
-ruleset laws = (carry-start, carry-over, carry-stop, carry-more, needs)
+ruleset laws = (carry-start, carry-over, carry-stop, carry-more, row-in, rows-over, needs)
+
+capacity-requires : tie.Need-capacity-requires Inv-loop μ-loop
+capacity-requires c κs = search laws
 
 loop-holds : tie.Need-loop-holds Inv-loop μ-loop
 loop-holds c = search laws
@@ -46,4 +49,4 @@ returns-2 c = search laws
 pub carry-spec : {M : Type 1} → statement M
 carry-spec =
     tie.close
-    (tie.spec Inv-loop μ-loop loop-holds row-at-requires step-requires stood-requires returns add-i loop-less loop-again accepting-requires returns-2)
+    (tie.spec Inv-loop μ-loop capacity-requires loop-holds row-at-requires step-requires stood-requires returns add-i loop-less loop-again accepting-requires returns-2)

@@ -1,15 +1,16 @@
 -- `write::carried::row_at` meets its contract. Assumes nothing.
 use Prim.Native.Nat.{_*_, _-_}
+use Rattle.law.specs.Rows.{width, stride}
 use Rattle.write.proofs.RowLaws.{Copied, copy-start, copy-place, copy-more, copy-over, row-place}
 use borrow.Author.Needs.{needs}
 use Rattle.write.proofs.carried.row_at.Statement.{statement}
 use Rattle.write.proofs.carried.row_at.Tie as tie
 
 abbrev Inv-loop : tie.InvT-loop
-Inv-loop rows i row₀ at k₀ row k = Copied rows (i * 10) row k
+Inv-loop rows i row₀ at k₀ row k = Copied rows (i * stride) row k
 
 abbrev μ-loop : tie.MeasureT-loop
-μ-loop rows i row₀ at k₀ row k = 10 - k
+μ-loop rows i row₀ at k₀ row k = width - k
 
 ruleset laws = (copy-start, copy-place, copy-more, copy-over, row-place, needs)
 

@@ -12,6 +12,9 @@ abbrev μ-loop : tie.MeasureT-loop
 
 ruleset laws = (doubt-start, doubt-length, doubt-width, doubt-marks, doubt-room, doubt-over, doubt-within, doubt-more, needs)
 
+capacity-requires : tie.Need-capacity-requires Inv-loop μ-loop
+capacity-requires c κs = search laws
+
 loop-holds : tie.Need-loop-holds Inv-loop μ-loop
 loop-holds c = search laws
 
@@ -45,4 +48,4 @@ returns c = search laws
 pub doubted-spec : {M : Type 1} → statement M
 doubted-spec =
     tie.close
-    (tie.spec Inv-loop μ-loop loop-holds sub-at row-at-requires leads-component-requires is-doubtful-requires loop-less loop-again same-length same-length-2 returns)
+    (tie.spec Inv-loop μ-loop capacity-requires loop-holds sub-at row-at-requires leads-component-requires is-doubtful-requires loop-less loop-again same-length same-length-2 returns)

@@ -12,6 +12,9 @@ abbrev μ-loop : tie.MeasureT-loop
 
 ruleset laws = (pair-start, pair-told, pair-length, pair-marked, pair-over, pair-within, pair-found, pair-more, needs)
 
+capacity-requires : tie.Need-capacity-requires Inv-loop μ-loop
+capacity-requires c κs = search laws
+
 loop-holds : tie.Need-loop-holds Inv-loop μ-loop
 loop-holds c = search laws
 
@@ -45,4 +48,4 @@ returns-2 c = search laws
 pub twice-among-spec : {M : Type 1} → statement M
 twice-among-spec =
     tie.close
-    (tie.spec Inv-loop μ-loop loop-holds sub-at row-at-requires names-again-requires same-length returns loop-less loop-again same-length-2 returns-2)
+    (tie.spec Inv-loop μ-loop capacity-requires loop-holds sub-at row-at-requires names-again-requires same-length returns loop-less loop-again same-length-2 returns-2)

@@ -1,6 +1,7 @@
 -- `write::texts::text_len` meets its contract. Assumes nothing.
 use Prim.Native.Nat.{_-_}
 use Rattle.write.proofs.TextLaws.{Counting, count-start, count-small, count-over, count-fits, count-far, count-more}
+use Rattle.write.proofs.RowLaws.{row-in, rows-over}
 use borrow.Author.Needs.{needs}
 use Rattle.write.proofs.texts.text_len.Statement.{statement}
 use Rattle.write.proofs.texts.text_len.Tie as tie
@@ -11,7 +12,10 @@ Inv-loop v rows bytes n sum₀ i₀ sum i = Counting v rows bytes sum i
 abbrev μ-loop : tie.MeasureT-loop
 μ-loop v rows bytes n sum₀ i₀ sum i = n - i
 
-ruleset laws = (count-start, count-small, count-over, count-fits, count-far, count-more, needs)
+ruleset laws = (count-start, count-small, count-over, count-fits, count-far, count-more, row-in, rows-over, needs)
+
+capacity-requires : tie.Need-capacity-requires Inv-loop μ-loop
+capacity-requires c κs = search laws
 
 loop-holds : tie.Need-loop-holds Inv-loop μ-loop
 loop-holds c = search laws
@@ -32,7 +36,7 @@ loop-less : tie.Need-loop-less Inv-loop μ-loop
 loop-less c = search laws
 
 loop-again : tie.Need-loop-again Inv-loop μ-loop
-loop-again c = search (count-more, c .before .before .before .before .loop .inv, c .before .before .before .loop-test .taken, c .before .before .row-at .ensures, c .before .line-len .ensures, c .if1 .left)
+loop-again c = search (count-more, row-in, c .before .before .before .before .before .capacity .ensures, c .before .before .before .before .loop .inv, c .before .before .before .loop-test .taken, c .before .before .row-at .ensures, c .before .line-len .ensures, c .if1 .left)
 
 returns-2 : tie.Need-returns-2 Inv-loop μ-loop
 returns-2 c = search laws
@@ -40,4 +44,4 @@ returns-2 c = search laws
 pub text-len-spec : {M : Type 1} → statement M
 text-len-spec =
     tie.close
-    (tie.spec Inv-loop μ-loop loop-holds row-at-requires line-len-requires returns add-i loop-less loop-again returns-2)
+    (tie.spec Inv-loop μ-loop capacity-requires loop-holds row-at-requires line-len-requires returns add-i loop-less loop-again returns-2)
