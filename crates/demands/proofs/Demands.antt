@@ -36,7 +36,7 @@ use Rattle.shown_write.proofs.RoundTrip as texts
 use Rattle.shown_same.proofs.Sameness as alike
 use Rattle.law.specs.Judging.{Judged}
 use Rattle.shown_judge.proofs.JudgedFiles as entries
-use Rattle.law.specs.RowPlaces.{RowsAt}
+use Rattle.law.specs.RowPlaces.{RowsOf}
 use Rattle.viewer.specs.declared.Step.{Step}
 use Rattle.demands.specs.Outcomes.{Checks, Reads, Writes, Compares, Judges, Shows}
 use Rattle.law.specs.LineFaults.{FaultyAfter}
@@ -76,13 +76,13 @@ untouched = (
 
 -- Demand 2
 
--- "An accepted file gives exactly the records that IDF 3.0 gives its lines": what `read` leaves means the list that the file says, line by line, each text by its own place in its own line; and the rest is as it was
+-- "An accepted file gives exactly the records that IDF 3.0 gives its lines": what `read` leaves means the list that the file says, line by line, each text by its own place in its own line, each row with the number of its line; and the rest is as it was
 pub records : {file : List ℕ} {old new : List ℤ} {r : Reply} → Reads file old r new → r .number ≡ 0
     → (rs : List Rec)
     × (s : FileSays Idf3 rs file)
     × (r ≡ reply 0 0 (length rs))
     × RowsMean file rs (take (stride * length rs) new)
-    × RowsAt (under Idf3 (titled rs)) file 0 (s .lines) rs (take (stride * length rs) new)
+    × RowsOf (under Idf3 (titled rs)) file (s .lines) rs (take (stride * length rs) new)
     × (drop (stride * length rs) new ≡ drop (stride * length rs) old)
 records {file} {old} o z =
     let w = read-list file (length old) (sym (ap numberIn (o .answer)) ∙ z) in
@@ -115,7 +115,7 @@ canonical-spells p d = texts.canonical-spells Idf3 p d
 pub one-text : {rs qs : List Rec} → Permitted Idf3 rs → Distinct Idf3 rs → Permitted Idf3 qs → Distinct Idf3 qs → (canonicalText Idf3 rs ≡ canonicalText Idf3 qs) ↔ (rs ≡ qs)
 one-text p d q e = texts.one-text Idf3 p d q e
 
--- `write` gives it, or says that there is none (15), or that it is too large (1) or the slice too short (14)
+-- `write` gives it, or says that there is none or that the lines of the rows do not rise (15), or that it is too large (1) or the slice too short (14)
 pub written-iff : {rows : List ℤ} {bytes old new : List ℕ} {r : Reply} → Writes rows bytes old r new ↔ Written rows bytes old r new
 written-iff {rows} {bytes} {old} = (λ o. rw (o .answer, o .left) (write-answers rows bytes old), λ w. let e = written-one rows bytes old w in record { answer = e .0; left = e .1 })
 

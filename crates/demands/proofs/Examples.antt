@@ -47,8 +47,9 @@ use Rattle.write_columns.specs.Columns.{liesIn, rangeFits, integerFits, wordFit
 use Rattle.write_columns.specs.Records.{valuesIn}
 use Rattle.write_lines.specs.LineText.{lineText}
 use Rattle.write.specs.WholeRows.{chunks, wholeRows}
+use Rattle.write.specs.LineNumbers.{rises}
 use Rattle.write.specs.Writable.{rowStep, carries, namesIt, namedIn, twice, writable}
-use Rattle.write.specs.Outcomes.{textOf, writeReply, writeText}
+use Rattle.write.specs.Outcomes.{textOf, mayWrite, writeReply, writeText}
 use Rattle.same.specs.Ignoring.{ignoredAt}
 use Rattle.same.specs.SameRows.{sameField, agreesAt, sameFrom, sameRow}
 use Rattle.same.specs.SameLists.{listIn, sameLists}
@@ -59,7 +60,7 @@ use Rattle.judge.specs.Verdicts.{judgeReply}
 use Rattle.law.specs.declared.Reply.{Reply}
 use Rattle.law.specs.Files.{FileSays, Continues}
 use Rattle.shown_read.proofs.Checked.{check-large}
-use Rattle.law.specs.Rows.{RowsSay}
+use Rattle.law.specs.Rows.{linesIn, RowsSay}
 use Rattle.shown_write.proofs.RowsWritten.{unwritable-iff}
 use Rattle.shown_write.proofs.RoundTrip.{file-rows}
 use Rattle.law.specs.Judging.{Judged}
@@ -132,8 +133,8 @@ pub answers :
     × (checkReply begun ≡ reply 13 2 0)
     × (checkReply board ≡ reply 0 0 13)
     × (checkReply entry ≡ reply 0 0 8)
-    × (readReply library 29 ≡ reply 2 0 3)
-    × (readReply library 32 ≡ reply 0 0 3)
+    × (readReply library 32 ≡ reply 2 0 3)
+    × (readReply library 35 ≡ reply 0 0 3)
     × (sameReply library other-words ≡ verdict 0 0 1 0)
     × (sameReply library other-list ≡ verdict 0 0 0 0)
     × (judgeReply board entry ≡ verdict 0 0 1 0)
@@ -180,7 +181,7 @@ pub written :
     × (writeReply (rowsOf library) library 60 ≡ reply 14 0 61)
     × (writeReply [] library 60 ≡ reply 15 0 0)
     × (writeText (rowsOf other-words) other-words (replicate 61 46) ≡ library)
-unfolding writeReply writeText textOf lineText canonicalRecord canonicalLine canonicalFields canonicalField canonical.written joined needsQuotes isEmpty printed signOf magnitudeOf numeralOf decimalsOf wordAt isKind wholeRows chunks writable carries rowStep twice namedIn namesIt sameNames sameTexts sameMeanings rowFits fieldsFit allZero rangeFits liesIn integerFits wordFits fits goodText valuesIn rowsIn traceAt traceIn turnOf lineIn judged ofKind dataBy filledBy kindOf filled fillFrom entryAt lineEnd contentLen endLen lineAs begins allOf permitted fieldsOf fieldsIn fieldOf fieldAt bareAt closedAt quotedAt endsWell span keywordOf keyFrom folded sameBytes placeOf wordsOf sections sectionNames kindAt sectionOf lineOf roleOf layoutOf typesOf keyKind dataKind mayStand mayOpen after moved stepped shapeOf manyLoops loopAfter eqZ meaning isName named isIn barred kept within beyond readField readNumber body whole decimals toCount digitHere readInteger unsigned digits isDate fitsIn isTwo datePieces
+unfolding writeReply writeText textOf lineText canonicalRecord canonicalLine canonicalFields canonicalField canonical.written joined needsQuotes isEmpty printed signOf magnitudeOf numeralOf decimalsOf wordAt isKind wholeRows chunks mayWrite rises linesIn writable carries rowStep twice namedIn namesIt sameNames sameTexts sameMeanings rowFits fieldsFit allZero rangeFits liesIn integerFits wordFits fits goodText valuesIn rowsIn traceAt traceIn turnOf lineIn judged ofKind dataBy filledBy kindOf filled fillFrom entryAt lineEnd contentLen endLen lineAs begins allOf permitted fieldsOf fieldsIn fieldOf fieldAt bareAt closedAt quotedAt endsWell span keywordOf keyFrom folded sameBytes placeOf wordsOf sections sectionNames kindAt sectionOf lineOf roleOf layoutOf typesOf keyKind dataKind mayStand mayOpen after moved stepped shapeOf manyLoops loopAfter eqZ meaning isName named isIn barred kept within beyond readField readNumber body whole decimals toCount digitHere readInteger unsigned digits isDate fitsIn isTwo datePieces
 written = (refl, refl, refl, refl)
 
 -- so they meet the premises

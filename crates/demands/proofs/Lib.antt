@@ -5,6 +5,7 @@ pub mod WriteAnswers
 pub mod Starts
 pub mod Viewing
 pub mod Demands
+pub mod LineNumbers
 pub mod Endings
 pub mod Letters
 pub mod Numbers

@@ -12,9 +12,7 @@ use Rattle.law.specs.Values.{Rec}
 use Rattle.law.specs.declared.Rules.the-variants.{Idf3}
 use Rattle.law.specs.Answers.{limit, reply}
 use Rattle.law.specs.declared.Reply.{Reply}
-use Rattle.write.specs.WholeRows.{wholeRows}
-use Rattle.write.specs.Writable.{writable}
-use Rattle.write.specs.Outcomes.{writeReply, writeText}
+use Rattle.write.specs.Outcomes.{mayWrite, writeReply, writeText}
 use Rattle.law.specs.Canonical.{canonicalText}
 use Rattle.law.specs.Rows.{RowsSay}
 use Rattle.shown_write.proofs.RowsWritten.{say-one, writable-iff, unwritable-reply, untouched, write-large, write-short, write-says, write-puts}
@@ -61,9 +59,9 @@ module _ (rows : List ℤ) (bytes old : List ℕ) where
         ]
 
   pub write-answers : Written rows bytes old answer (writeText rows bytes old)
-  write-answers = go (writable Idf3 bytes (wholeRows rows)) refl
+  write-answers = go (mayWrite Idf3 bytes rows) refl
     where
-      go : (b : Bool) → writable Idf3 bytes (wholeRows rows) ≡ b → Written rows bytes old answer (writeText rows bytes old)
+      go : (b : Bool) → mayWrite Idf3 bytes rows ≡ b → Written rows bytes old answer (writeText rows bytes old)
       go true e = list-answers (writable-iff rows bytes .0 e .1)
       go false e =
           let d : None = λ w. false≢true (sym e ∙ writable-iff rows bytes .1 w) in

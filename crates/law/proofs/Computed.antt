@@ -18,7 +18,8 @@ use Rattle.law.specs.Fits.{under, within, meaning, barred, goodText, isE
 use Rattle.law.specs.RecordSpelling.{isData}
 use Rattle.law.specs.Records.{isMiddle}
 use Rattle.law.specs.Files.{titled}
-use Rattle.law.specs.Rows.{whole}
+use Rattle.law.specs.Rows.{withLine, whole, linesIn}
+use Rattle.law.specs.RowPlaces.{upFrom}
 use Rattle.law.specs.Printing as form
 use Rattle.law.specs.Printing.{decimal, numeralOf, decimalsOf, magnitudeOf, signOf, printed}
 use Rattle.law.specs.Canonical.{needsQuotes, canonicalField, canonicalFields, written, joined, canonicalLine, canonicalRecord, canonicalText}
@@ -188,5 +189,15 @@ unfolding canonicalText canonicalRecord canonicalLine canonicalFields canonicalF
 listing = refl
 
 -- what is left behind the whole rows is not looked at
-pub rows-whole : (whole (replicate 11 (pos 0)) ≡ replicate 10 (pos 0)) × (whole (replicate 9 (pos 0)) ≡ [])
+pub rows-whole : (whole (replicate 12 (pos 0)) ≡ replicate 11 (pos 0)) × (whole (replicate 10 (pos 0)) ≡ [])
 rows-whole = (refl, refl)
+
+-- the line of a row stands behind its record's numbers
+pub rows-lines : linesIn 2 (withLine (replicate 10 (pos 5)) (pos 3) ++ withLine (replicate 10 (pos 6)) (negsuc 0)) ≡ pos 3 ∷ negsuc 0 ∷ []
+unfolding linesIn
+rows-lines = refl
+
+-- lines that are counted
+pub counted-lines : upFrom 1 3 ≡ pos 1 ∷ pos 2 ∷ pos 3 ∷ []
+unfolding upFrom
+counted-lines = refl

@@ -34,7 +34,8 @@ use Rattle.law.specs.declared.Texts.the-variants.{Plain, Reference}
 use Rattle.law.specs.LineSpelling as spelled
 use Rattle.law.specs.LineSpelling.{SpellsLines, inside}
 use Rattle.law.specs.Lists.{Line, PointLine, Step, last as back, Loop, circle, path, Loops, final, another, numbered, no-line, no-pair, pair, led, placed, section, no-section, Section, Header, header-of, Middle, Permitted, a-board, in-none, nor, nothing-named, and-new, Distinct}
-use Rattle.law.specs.Rows.{Holds, none, aNumber, aWord, aDate, aText}
+use Rattle.law.specs.Rows as rows
+use Rattle.law.specs.Rows.{Holds, none, aNumber, aWord, aDate, aText, withLine, RowsMean, Rises}
 use Rattle.law.specs.Answers.{verdict}
 use Rattle.law.specs.Judging as judging
 use Rattle.law.specs.Judging.{placementIn, Entry, this, later, Served, board as needs-none, mechanical as needs-mechanical, electrical as needs-electrical, Judged, lacking, served}
@@ -235,6 +236,23 @@ title-held =
       ten = refl;
       means = aWord (aNumber refl (aText {a = 25} {l = 1} (omega arith) (aDate {a = 27} {l = 19} (omega arith) (aNumber refl none))));
     }
+
+-- it means the same with any line
+pub any-line : (n : ℤ) → RowsMean three-lines (record { kind = 11; values = word 2 ∷ count 300_000 ∷ said "s" ∷ said "2024/05/06.07:08:09" ∷ count 1 ∷ [] } ∷ []) (withLine title-row n ++ [])
+any-line n = rows.row n title-held rows.none
+
+-- lines: from 1 on, with gaps; not from 0, not twice the same, not falling
+pub from-one : Rises (pos 0) (pos 1 ∷ pos 2 ∷ pos 7 ∷ [])
+from-one = rows.next refl (rows.next refl (rows.next refl rows.none))
+
+pub not-from-zero : Rises (pos 0) (pos 0 ∷ []) → ⊥
+not-from-zero (rows.next h r) = false≢true h
+
+pub not-below-zero : Rises (pos 0) (negsuc 0 ∷ []) → ⊥
+not-below-zero (rows.next h r) = false≢true h
+
+pub not-the-same : Rises (pos 0) (pos 2 ∷ pos 2 ∷ []) → ⊥
+not-the-same (rows.next g (rows.next h r)) = false≢true h
 
 -- judging: R1 is served by an electrical entry, NOREFDES by a mechanical one and by no other
 

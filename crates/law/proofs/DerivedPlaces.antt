@@ -24,8 +24,9 @@ use Rattle.law.specs.declared.Rules.the-variants.{Idf3}
 use Rattle.law.specs.declared.FileType.the-variants.{Library}
 use Rattle.law.specs.declared.Texts.the-variants.{Plain}
 use Rattle.law.specs.FieldPlaces.{SpelledAt, end, space, last, next, numbersOf}
+use Rattle.law.specs.Rows.{withLine}
 use Rattle.law.specs.RowPlaces as rows
-use Rattle.law.specs.RowPlaces.{columnsOfAll, RowOf, RowsAt}
+use Rattle.law.specs.RowPlaces.{columnsOfAll, RowOf, RowsOf}
 use Rattle.law.specs.Viewing.{comment, fields, Shown, no-line, not-permitted, no-fields, too-short, whole, after-0, after-3, after-4, MovesOn, Called, opened, moved, stayed}
 use Rattle.law.specs.WordSpelling.{end, same}
 
@@ -72,13 +73,17 @@ its-row b =
       ten = refl;
     }
 
--- three such lines: the second begins at 10, behind the bytes 13 and 10 of the first, and the third at 19, behind the byte 10 of the second
+-- three such lines: the second begins at 10, behind the bytes 13 and 10 of the first, and the third at 19, behind the byte 10 of the second and the
+-- empty line 3
 abbrev thrice : List ℕ
-thrice = property ++ (13 ∷ 10 ∷ (property ++ (10 ∷ (property ++ (10 ∷ [])))))
+thrice = property ++ (13 ∷ 10 ∷ (property ++ (10 ∷ 10 ∷ (property ++ (10 ∷ [])))))
 
-pub three-properties : RowsAt (under Idf3 Library) thrice 0 (property ∷ property ∷ property ∷ []) (its ∷ its ∷ its ∷ []) (rowFrom 5 7 ++ (rowFrom 15 17 ++ (rowFrom 24 26 ++ [])))
+pub three-properties : RowsOf (under Idf3 Library) thrice (property ∷ property ∷ [] ∷ property ∷ []) (its ∷ its ∷ its ∷ [])
+    (withLine (rowFrom 5 7) (pos 1) ++ (withLine (rowFrom 15 17) (pos 2) ++ (withLine (rowFrom 25 27) (pos 4) ++ [])))
 unfolding lines.endBytes
-three-properties = rows.line spells-property (its-row 0) (rows.line spells-property (its-row 10) (rows.line spells-property (its-row 19) rows.end))
+three-properties =
+    rows.line spells-property (its-row 0)
+    (rows.line spells-property (its-row 10) (rows.free (lines.blank by.none) (rows.line spells-property (its-row 20) rows.end)))
 
 -- The line reader, over a comment, a tab, a quote before 13 and 10, and two fields, with a slice of two numbers; then with one of five
 

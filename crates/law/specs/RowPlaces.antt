@@ -1,6 +1,6 @@
 -- "Each keyword or data line gives one row": the row of a record by the line that spells it, with its texts where they stand, and the rows of
--- the lines of a file.
-use Prim.Native.Nat.{ℕ, _+_, _*_}
+-- the lines of a file, each with the number of its line, from 1, in which free lines count too (W-205).
+use Prim.Native.Nat.{ℕ, zero, suc, _+_, _*_}
 use mathlib.Core.Path.{_≡_}
 use mathlib.Core.List.{List, [], _∷_, _++_}
 use lib.IntN.{ℤ, pos}
@@ -8,7 +8,7 @@ use lib.ListN.{length, replicate}
 use Rattle.law.specs.Lines.{placeBehind, Free}
 use Rattle.law.specs.Values.{Value, number, word, text, Rec}
 use Rattle.law.specs.declared.Context.{Context}
-use Rattle.law.specs.Rows.{width, stride}
+use Rattle.law.specs.Rows.{width, stride, withLine}
 use Rattle.law.specs.RecordSpelling.{SpellsRecord}
 use Rattle.law.specs.FieldPlaces.{Spot, SpelledAt, startAndLength}
 
@@ -24,7 +24,7 @@ columnsOfAll [] ps = []
 columnsOfAll (v ∷ vs) [] = []
 columnsOfAll (v ∷ vs) (p ∷ ps) = columnsOf v p ++ columnsOfAll vs ps
 
--- the row of the record r, by its line l, which begins at b in the file: its kind, the columns of its values, and 0 in what is left.
+-- the numbers of the record r, by its line l, which begins at b in the file: its kind, the columns of its values, and 0 in what is left.
 -- The last fields of the line spell the values, one each; a keyword or PROP stands before them
 pub record RowOf (b : ℕ) (l : List ℕ) (r : Rec) (row : List ℤ) : Type 0 where
   pub front : List Spot
@@ -35,21 +35,32 @@ pub record RowOf (b : ℕ) (l : List ℕ) (r : Rec) (row : List ℤ) : Type 0 wh
   pub is : row ≡ pos (r .kind) ∷ (columnsOfAll (r .values) own ++ replicate left (pos 0))
   pub ten : length row ≡ width
 
--- the rows of lines of a file that spell these records, the first of which begins at b: a free line has none, and every other has its record's
-pub data RowsAt (c : Context) (file : List ℕ) : ℕ → List (List ℕ) → List Rec → List ℤ → Type 0 where
-  end : {b : ℕ} → RowsAt c file b [] [] []
-  free : {b : ℕ} {l : List ℕ} {ls : List (List ℕ)} {rs : List Rec} {xs : List ℤ} → Free l → RowsAt c file (placeBehind file b l) ls rs xs
-      → RowsAt c file b (l ∷ ls) rs xs
-  line : {b : ℕ} {l : List ℕ} {ls : List (List ℕ)} {r : Rec} {rs : List Rec} {x xs : List ℤ}
-      → SpellsRecord c r l → RowOf b l r x → RowsAt c file (placeBehind file b l) ls rs xs → RowsAt c file b (l ∷ ls) (r ∷ rs) (x ++ xs)
+-- the rows of lines of a file that spell these records, the first of which begins at b and is line n: a free line has none, and every other has
+-- its record's numbers and its own
+pub data RowsAt (c : Context) (file : List ℕ) : ℕ → ℕ → List (List ℕ) → List Rec → List ℤ → Type 0 where
+  end : {b n : ℕ} → RowsAt c file b n [] [] []
+  free : {b n : ℕ} {l : List ℕ} {ls : List (List ℕ)} {rs : List Rec} {xs : List ℤ} → Free l → RowsAt c file (placeBehind file b l) (n + 1) ls rs xs
+      → RowsAt c file b n (l ∷ ls) rs xs
+  line : {b n : ℕ} {l : List ℕ} {ls : List (List ℕ)} {r : Rec} {rs : List Rec} {x xs : List ℤ}
+      → SpellsRecord c r l → RowOf b l r x → RowsAt c file (placeBehind file b l) (n + 1) ls rs xs
+      → RowsAt c file b n (l ∷ ls) (r ∷ rs) (withLine x (pos n) ++ xs)
+
+-- of all lines of a file: the first begins at its first byte and is line 1
+abbrev pub RowsOf : Context → List ℕ → List (List ℕ) → List Rec → List ℤ → Type 0
+RowsOf c file ls rs xs = RowsAt c file 0 1 ls rs xs
+
+-- k numbers from n on: the lines of rows where every line has one
+unfoldable pub upFrom : ℕ → ℕ → List ℤ
+upFrom n zero = []
+upFrom n (suc k) = pos n ∷ upFrom (n + 1) k
 
 -- the first byte of the line that stands behind these lines of a file, the first of which begins at b
 unfoldable pub startAfter : List ℕ → ℕ → List (List ℕ) → ℕ
 startAfter file b [] = b
 startAfter file b (l ∷ ls) = startAfter file (placeBehind file b l) ls
 
--- the row of the line l, which begins at b: it is that of the record which l spells, and stands behind the rows of the records before it
-pub record LineRow (c : Context) (b : ℕ) (l : List ℕ) (rs : List Rec) (xs : List ℤ) : Type 0 where
+-- the row of the line l, which begins at b and is line n: it is that of the record which l spells, and stands behind the rows of the records before it
+pub record LineRow (c : Context) (b n : ℕ) (l : List ℕ) (rs : List Rec) (xs : List ℤ) : Type 0 where
   pub before : List Rec
   pub its : Rec
   pub after : List Rec
@@ -57,7 +68,7 @@ pub record LineRow (c : Context) (b : ℕ) (l : List ℕ) (rs : List Rec) (xs : 
   pub row : List ℤ
   pub below : List ℤ
   pub records : rs ≡ before ++ (its ∷ after)
-  pub rows : xs ≡ above ++ (row ++ below)
+  pub rows : xs ≡ above ++ (withLine row (pos n) ++ below)
   pub as-many : length above ≡ stride * length before
   pub spells : SpellsRecord c its l
   pub is : RowOf b l its row

@@ -1,17 +1,20 @@
 -- Laws of rows in a lent slice, as the code leaves them.
 use Prim.Native.Nat.{ℕ, _+_, _-_, _^_, _≤_, _<_}
 use mathlib.Core.Path.{_≡_, refl, sym, ap, ap₂, _∙_}
-use mathlib.Core.List.{List, [], _++_, append-assoc}
+use mathlib.Core.List.{List, [], _∷_, _++_, append-assoc}
 use mathlib.Core.Bool.{Bool, true, false, cond, true≢false, false≢true}
+use native.Mathlib.Numerals.{add-one}
 use native.Mathlib.Omega.{arith}
 use mir.Syntax.{w64}
-use mir.Val.{Fits}
+use mir.Val.{Fits, SFits, toZ}
+use mir.ValLaws.{toZ-ofZ, toZ-pos}
 use borrow.Author.Tests.{eq-eqb, ne-eqb, lt-ltb, le-ltb}
-use lib.IntN.{ℤ}
-use lib.ListN.{length, take, drop, length-append, take-append-drop}
-use lib.Seq.{paste, length-paste, take-paste, drop-paste, take-all, drop-drop}
+use lib.IntN.{ℤ, pos}
+use lib.ListN.{length, take, drop, set, getD, length-append, length-set, take-append-drop, List·getD-append}
+use lib.Seq.{paste, paste-zero, paste-suc, length-paste, take-paste, drop-paste, take-all, drop-drop, getD-at}
+use Rattle.basics.proofs.Integers.{back}
 use Rattle.read.proofs.ReplyLaws.{accepted-small}
-use Rattle.law.specs.Rows.{width, stride, capacity}
+use Rattle.law.specs.Rows.{width, stride, capacity, withLine}
 use Rattle.walk.specs.declared.Found.{Found}
 use Rattle.walk.specs.declared.Found.the-variants.{Row, Nothing, Refused}
 use Rattle.law.specs.declared.Reply.{Reply}
@@ -23,27 +26,71 @@ use Rattle.read.specs.Replies.{checkReply, rowsIn, rowsOf, placedAt, pla
 use Rattle.walk.proofs.WalkLaws.{Going, going-start, going-trace, going-less, going-more, going-end}
 use Rattle.read.proofs.RowWidths.{turn-wide, check-counts}
 
+-- a row put number by number, its line last
+pub record Putting (old : List ℤ) (at : ℕ) (x : List ℤ) (line : ℕ) (rows : List ℤ) (i : ℕ) : Type 0 where
+  pub within : i ≤ width
+  pub is : rows ≡ paste old at (withLine x (pos line)) i
+  pub long : length rows ≡ length old
+
+pub put-start : (old x : List ℤ) (at line : ℕ) → Putting old at x line old 0
+put-start old x at line = record { within = omega arith; is = paste-zero old at (withLine x (pos line)); long = refl }
+
+module _ (old x rows : List ℤ) (at line i : ℕ) (p : Putting old at x line rows i) where
+  pub put-length : length rows ≡ length old
+  put-length = p .long
+
+  module _ (w : length x ≡ width) (r : at + stride ≤ length old) where
+    n : length (withLine x (pos line)) ≡ stride
+    n = omega (arith, length-append x (pos line ∷ []), w)
+
+    -- one number more
+    put-next : (z : ℤ) → i < stride → z ≡ getD (withLine x (pos line)) i (pos 0) → set rows (at + i) z ≡ paste old at (withLine x (pos line)) (i + 1)
+    put-next z h e =
+        let d : at + i < length old = omega arith in
+        let l : i < length (withLine x (pos line)) = omega (arith, n) in
+        rw (e, p .is) (paste-suc old at (withLine x (pos line)) i (pos 0) d l) ∙ ap (paste old at (withLine x (pos line))) (sym (add-one i))
+
+    pub put-more : i < width → SFits w64 (getD x i (pos 0)) → Putting old at x line (set rows (at + i) (back (getD x i (pos 0)))) (i + 1)
+    put-more h f =
+        let l : i < length x = omega (arith, w) in
+        let b : back (getD x i (pos 0)) ≡ getD (withLine x (pos line)) i (pos 0) = toZ-ofZ w64 (getD x i (pos 0)) f ∙ sym (List·getD-append x (pos line ∷ []) (pos 0) i l) in
+        record {
+          within = omega arith;
+          is = put-next (back (getD x i (pos 0))) (omega arith) b;
+          long = length-set rows (at + i) (back (getD x i (pos 0))) ∙ p .long;
+        }
+
+    pub put-last : width ≤ i → line < 2 ^ 63 → set rows (at + width) (toZ w64 line) ≡ paste old at (withLine x (pos line)) stride
+    put-last h s =
+        let k : i ≡ width = omega (arith, p .within) in
+        let g = put-next (toZ w64 line) (omega (arith, k)) (toZ-pos w64 line (omega arith) ∙ sym (getD-at x (pos line) [] (pos 0) i (w ∙ sym k))) in
+        rw k at g
+
 -- one row in the slice, if the line has one
-module _ (rows : List ℤ) (at : ℕ) (t : Turn) (x : Bool) (e : x ≡ isRow (t .found)) where
-  pub place-room : RowRoom rows at t → x ≡ true → at + stride ≤ length rows
-  place-room h i = h .fits (sym e ∙ i)
-
-  pub place-fits : RowRoom rows at t → x ≡ true → length rows < 2 ^ 64 → Fits w64 (at + stride)
-  place-fits h i k = omega (arith, place-room h i)
-
+module _ (at : ℕ) (t : Turn) (x : Bool) (e : x ≡ isRow (t .found)) where
   pub behind-row : x ≡ true → at + stride ≡ placeBehind at t
   unfolding placeBehind
   behind-row i = rw (sym e ∙ i)
-
-  pub placed-row : (y : List ℤ) → x ≡ true → y ≡ paste rows at (t .row) width → y ≡ placedAt rows at t
-  unfolding placedAt
-  placed-row y i h = rw (sym e ∙ i) h
 
   pub behind-none : x ≡ false → at ≡ placeBehind at t
   unfolding placeBehind
   behind-none i = rw (sym e ∙ i)
 
-  pub placed-none : x ≡ false → rows ≡ placedAt rows at t
+module _ (rows : List ℤ) (at l : ℕ) (t : Turn) (x : Bool) (e : x ≡ isRow (t .found)) where
+  pub place-room : RowRoom rows at l t → x ≡ true → at + stride ≤ length rows
+  place-room h i = h .fits (sym e ∙ i)
+
+  pub place-line : RowRoom rows at l t → l < 2 ^ 63
+  place-line h = h .small
+
+  pub place-fits : RowRoom rows at l t → x ≡ true → length rows < 2 ^ 64 → Fits w64 (at + stride)
+  place-fits h i k = omega (arith, place-room h i)
+
+  pub placed-row : (y : List ℤ) → x ≡ true → y ≡ paste rows at (withLine (t .row) (pos l)) stride → y ≡ placedAt rows at l t
+  unfolding placedAt
+  placed-row y i h = rw (sym e ∙ i) h
+
+  pub placed-none : x ≡ false → rows ≡ placedAt rows at l t
   unfolding placedAt
   placed-none i = rw (sym e ∙ i)
 
@@ -78,7 +125,7 @@ module _ (l : ℕ) (r : List ℤ) (x : Trace) where
   rows-stop Nothing h = absurd (false≢true h)
   rows-stop (Refused n) h = refl
 
-  rows-row : (f : Found) → isRow f ≡ true → rowsIn (traceBy f l r x) ≡ r ++ rowsIn x
+  rows-row : (f : Found) → isRow f ≡ true → rowsIn (traceBy f l r x) ≡ withLine r (pos l) ++ rowsIn x
   unfolding rowsIn
   rows-row Row h = refl
   rows-row Nothing h = absurd (false≢true h)
@@ -108,31 +155,34 @@ module _ (file : List ℕ) (old rows : List ℤ) (w : Walk) (at n : ℕ) (s : Pl
     left : rowsIn (traceAt file w) ≡ rowsIn (traceBy (t .found) (w .line) (t .row) (traceAt file (t .walk)))
     left = ap rowsIn (going-trace file w at (s .going) h t e)
 
-    wide : length (t .row) ≡ width
-    wide = rw e (turn-wide file w)
+    abbrev its : List ℤ
+    its = withLine (t .row) (pos (w .line))
 
-    row-left : isRow (t .found) ≡ true → rowsIn (traceAt file w) ≡ t .row ++ rowsIn (traceAt file (t .walk))
+    wide : length its ≡ stride
+    wide = let n : length (t .row) ≡ width = rw e (turn-wide file w) in omega (arith, length-append (t .row) (pos (w .line) ∷ []), n)
+
+    row-left : isRow (t .found) ≡ true → rowsIn (traceAt file w) ≡ its ++ rowsIn (traceAt file (t .walk))
     row-left i = left ∙ rows-row (w .line) (t .row) (traceAt file (t .walk)) (t .found) i
 
     row-room : isRow (t .found) ≡ true → n + stride ≤ length rows
-    row-room i = let f = s .fits in omega (arith, ap length (row-left i), length-append (t .row) (rowsIn (traceAt file (t .walk))), wide)
+    row-room i = let f = s .fits in omega (arith, ap length (row-left i), length-append its (rowsIn (traceAt file (t .walk))), wide)
 
-    pub turn-room : RowRoom rows n t
-    turn-room = record { fits = row-room }
+    pub turn-room : RowRoom rows n (w .line) t
+    turn-room = let g = s .going .steady in record { small = omega (arith, g .small, g .within, g .lines); fits = row-room }
 
     module _ (y : Bool) (i : y ≡ stopsBy (t .found)) where
       pub place-stop : y ≡ true → rows ≡ over (rowsOf file) old
       place-stop j = all-placed (left ∙ rows-stop (w .line) (t .row) (traceAt file (t .walk)) (t .found) (sym i ∙ j))
 
-      with-row : isRow (t .found) ≡ true → Placing file old (paste rows n (t .row) width) (t .walk) (t .walk .at) (n + stride)
+      with-row : isRow (t .found) ≡ true → Placing file old (paste rows n its stride) (t .walk) (t .walk .at) (n + stride)
       with-row k =
-          let m : width ≤ length (t .row) = omega (arith, wide) in
-          let p : length (paste rows n (t .row) width) ≡ length rows = length-paste rows n (t .row) width (row-room k) m in
+          let m : stride ≤ length its = omega (arith, wide) in
+          let p : length (paste rows n its stride) ≡ length rows = length-paste rows n its stride (row-room k) m in
           record {
             going = going-more file w at (s .going) h t e;
             long = p ∙ s .long;
-            fits = omega (arith, p, s .fits, ap length (row-left k), length-append (t .row) (rowsIn (traceAt file (t .walk))), wide);
-            same = sym (over-more n width (t .row) (rowsIn (traceAt file (t .walk))) rows wide (row-room k))
+            fits = omega (arith, p, s .fits, ap length (row-left k), length-append its (rowsIn (traceAt file (t .walk))), wide);
+            same = sym (over-more n stride its (rowsIn (traceAt file (t .walk))) rows wide (row-room k))
                 ∙ ap (λ (x : List ℤ). take n rows ++ over x (drop n rows)) (sym (row-left k))
                 ∙ s .same;
           }
@@ -142,11 +192,11 @@ module _ (file : List ℕ) (old rows : List ℤ) (w : Walk) (at n : ℕ) (s : Pl
           let q : rowsIn (traceAt file w) ≡ rowsIn (traceAt file (t .walk)) = left ∙ rows-none (w .line) (t .row) (traceAt file (t .walk)) (t .found) (sym i ∙ j) k in
           record { going = going-more file w at (s .going) h t e; long = s .long; fits = rw q at (s .fits); same = rw q at (s .same) }
 
-      pub place-more : (m : ℕ) (next : List ℤ) → y ≡ false → m ≡ placeBehind n t → next ≡ placedAt rows n t → Placing file old next (t .walk) (t .walk .at) m
+      pub place-more : (m : ℕ) (next : List ℤ) → y ≡ false → m ≡ placeBehind n t → next ≡ placedAt rows n (w .line) t → Placing file old next (t .walk) (t .walk .at) m
       unfolding placeBehind placedAt
       place-more m next j a b = rw (a, b) (go (isRow (t .found)) refl)
         where
-          go : (x : Bool) → isRow (t .found) ≡ x → Placing file old (cond x (paste rows n (t .row) width) rows) (t .walk) (t .walk .at) (cond x (n + stride) n)
+          go : (x : Bool) → isRow (t .found) ≡ x → Placing file old (cond x (paste rows n its stride) rows) (t .walk) (t .walk .at) (cond x (n + stride) n)
           go true k = with-row k
           go false k = with-none j k
 

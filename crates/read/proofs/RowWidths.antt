@@ -15,7 +15,7 @@ use Rattle.law.specs.declared.Context.{Context}
 use Rattle.law.specs.declared.Rules.{Rules}
 use Rattle.law.specs.declared.Rules.the-variants.{Idf3}
 use Rattle.law.specs.declared.FieldType.{FieldType}
-use Rattle.law.specs.Rows.{width, stride}
+use Rattle.law.specs.Rows.{width, stride, withLine}
 use Rattle.line_rows.specs.Rows.{putEntry, entryAt, begun as firstly, fillFrom, filled}
 use Rattle.line_rows.specs.declared.Entry.{Entry}
 use Rattle.line_rows.specs.declared.Entry.the-variants.{Number, Word, Text, Refused as NoEntry}
@@ -155,7 +155,7 @@ rows-long (suc n) file r w h = go (ltb (w .at) (length file)) (λ q. rows-long n
     t = turnOf file w
 
     found : (f : Found) → t .found ≡ f → ((q : Reply) → Long q (traceIn n file (t .walk))) → Long r (traceBy f (w .line) (t .row) (traceIn n file (t .walk)))
-    found Row e ih h = let k = ih (reply 0 0 (r .count + 1)) h in omega (arith, length-append (t .row) (rowsIn (traceIn n file (t .walk))), turn-wide file w)
+    found Row e ih h = let k = ih (reply 0 0 (r .count + 1)) h in omega (arith, length-append (withLine (t .row) (pos (w .line))) (rowsIn (traceIn n file (t .walk))), length-append (t .row) (pos (w .line) ∷ []), turn-wide file w)
     found Nothing e ih h = ih r h
     found (Refused m) e ih h = absurd (turn-told file w m e h)
 

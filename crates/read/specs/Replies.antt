@@ -1,13 +1,13 @@
 -- What `check` and `read` answer, and what `read` leaves in the slice.
-use Prim.Native.Nat.{ℕ, _+_, _≤_}
+use Prim.Native.Nat.{ℕ, _+_, _^_, _≤_, _<_}
 use mathlib.Core.Path.{_≡_}
 use mathlib.Core.List.{List, [], _++_}
 use mathlib.Core.Bool.{true, cond}
 use lib.Dec.{ltb, eqb}
-use lib.IntN.{ℤ}
+use lib.IntN.{ℤ, pos}
 use lib.ListN.{length}
 use lib.Seq.{paste}
-use Rattle.law.specs.Rows.{width, stride, capacity}
+use Rattle.law.specs.Rows.{stride, capacity, withLine}
 use Rattle.order.specs.Automaton.{accepting, typeAt}
 use Rattle.walk.specs.declared.Found.{Found}
 use Rattle.walk.specs.declared.Found.the-variants.{Row, Nothing, Refused}
@@ -67,12 +67,12 @@ examinedWithin file = record { reply = withinReply file; file = typeOf file }
 unfoldable pub examined : List ℕ → Checked
 examined file = record { reply = checkReply file; file = cond (ltb limit (length file)) Library (typeOf file) }
 
--- the rows of a file, one after the other
+-- the rows of a file, one after the other, each with the number of its line
 unfoldable pub rowsIn : Trace → List ℤ
 rowsIn (done w) = []
 rowsIn (stop n l) = []
 rowsIn (skip l t) = rowsIn t
-rowsIn (row l x t) = x ++ rowsIn t
+rowsIn (row l x t) = withLine x (pos l) ++ rowsIn t
 
 abbrev pub rowsOf : List ℕ → List ℤ
 rowsOf file = rowsIn (traceOf file)
@@ -83,14 +83,15 @@ readReply file room =
     let r = checkReply file in
     cond (eqb (r .number) 0) (cond (ltb (capacity room) (r .count)) (reply 2 0 (r .count)) r) r
 
--- a slice with the row of a line from a place on, if it has one; the place behind it; the room for it
-unfoldable pub placedAt : List ℤ → ℕ → Turn → List ℤ
-placedAt rows at t = cond (isRow (t .found)) (paste rows at (t .row) width) rows
+-- a slice with the row of line l from a place on, if it has one; the place behind it; the room for it
+unfoldable pub placedAt : List ℤ → ℕ → ℕ → Turn → List ℤ
+placedAt rows at l t = cond (isRow (t .found)) (paste rows at (withLine (t .row) (pos l)) stride) rows
 
 unfoldable pub placeBehind : ℕ → Turn → ℕ
 placeBehind at t = cond (isRow (t .found)) (at + stride) at
 
-pub record RowRoom (rows : List ℤ) (at : ℕ) (t : Turn) : Type 0 where
+pub record RowRoom (rows : List ℤ) (at l : ℕ) (t : Turn) : Type 0 where
+  pub small : l < 2 ^ 63
   pub fits : isRow (t .found) ≡ true → at + stride ≤ length rows
 
 -- the rows in front of what was there; on every refusal what was there

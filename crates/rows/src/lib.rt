@@ -1,4 +1,4 @@
-// A row: a record as ten numbers, its kind and then the fields of its line. Its columns and kinds by name, and what is read off it.
+// A row: a record as ten numbers, its kind and then the fields of its line; in a lent slice its line's number stands behind them. Its columns and kinds by name, and what is read off it.
 use basics::same_integers;
 use law::FileType;
 use number::Angle;
@@ -15,8 +15,8 @@ ghost use Rattle.rows.specs.RowKinds.{leadsComponent, componentKind};
 // How many numbers a record has: its kind and nine columns.
 pub const WIDTH: usize = 10;
 
-// How many numbers of a slice a row takes.
-pub const STRIDE: usize = 10;
+// How many numbers of a slice a row takes: those of its record, and its line's.
+pub const STRIDE: usize = 11;
 
 // Kinds of rows: the first line of a placement, the leading lines of components; and the last there is.
 pub const PART: i64 = 131;

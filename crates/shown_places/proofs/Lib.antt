@@ -3,6 +3,7 @@ pub mod Fills
 pub mod LineRows
 pub mod FileRows
 pub mod OneRow
+pub mod LineNumbers
 pub mod ReaderPlaces
 pub mod ViewAnswers
 pub mod LinePlaces

@@ -5,13 +5,14 @@ use mathlib.Core.List.{List, [], _∷_, _++_, append-assoc}
 use native.Mathlib.Nat.{add-zero}
 use native.Mathlib.Omega.{arith}
 use lib.Seq.{drop-append-seam, drop-drop}
-use lib.IntN.{ℤ}
+use lib.IntN.{ℤ, pos}
 use lib.ListN.{length, drop, length-append, length-drop}
 use Rattle.basics.proofs.Lists.{at-end}
 use Rattle.law.specs.Lines.{End, File, Free, none, last, next, endBytes, placeBehind}
 use Rattle.text.proofs.LineSpelling.{end-bytes, end-some}
 use Rattle.law.specs.Values.{Rec}
 use Rattle.law.specs.declared.Context.{Context}
+use Rattle.law.specs.Rows.{withLine}
 use Rattle.law.specs.RowPlaces.{RowsAt, free, line, startAfter, LineRow}
 use Rattle.shown_places.proofs.ReaderPlaces.{none-long}
 
@@ -52,25 +53,39 @@ unfolding startAfter
 rest-made [] l ms file b f = f
 rest-made (u ∷ us) l ms file b f = rest-made us l ms file (placeBehind file b u) (behind file b refl f .rest)
 
--- the row of a line, where the first line begins at b
-pub line-row : (us : List (List ℕ)) (l : List ℕ) (ms : List (List ℕ)) {c : Context} {file : List ℕ} {b : ℕ} {rs : List Rec} {xs : List ℤ} → (Free l → ⊥)
-    → RowsAt c file b (us ++ (l ∷ ms)) rs xs → LineRow c (startAfter file b us) l rs xs
+-- the row of a line, where the first line begins at b and is line n
+pub line-row : (us : List (List ℕ)) (l : List ℕ) (ms : List (List ℕ)) {c : Context} {file : List ℕ} {b n : ℕ} {rs : List Rec} {xs : List ℤ} → (Free l → ⊥)
+    → RowsAt c file b n (us ++ (l ∷ ms)) rs xs → LineRow c (startAfter file b us) (n + length us) l rs xs
 unfolding startAfter
 line-row [] l ms h (free f p) = absurd (h f)
-line-row [] l ms h (line {r = r} {rs = rs} {x = x} {xs = xs} f q p) = record { before = []; its = r; after = rs; above = []; row = x; below = xs; records = refl; rows = refl; as-many = refl; spells = f; is = q }
-line-row (u ∷ us) l ms h (free f p) = line-row us l ms h p
-line-row (u ∷ us) l ms h (line {r = q} {x = y} f o p) =
-    let w = line-row us l ms h p in
+line-row [] l ms h (line {n = n} {r = r} {rs = rs} {x = x} {xs = xs} f q p) = record {
+  before = [];
+  its = r;
+  after = rs;
+  above = [];
+  row = x;
+  below = xs;
+  records = refl;
+  rows = rw (add-zero n);
+  as-many = refl;
+  spells = f;
+  is = q;
+}
+line-row (u ∷ us) l ms h (free {n = n} f p) = let e : n + 1 + length us ≡ n + length (u ∷ us) = omega arith in rw e at (line-row us l ms h p)
+line-row (u ∷ us) l ms h (line {n = n} {r = q} {x = y} f o p) =
+    let e : n + 1 + length us ≡ n + length (u ∷ us) = omega arith in
+    let w = rw e at (line-row us l ms h p) in
+    let v = withLine y (pos n) in
     record {
       before = q ∷ w .before;
       its = w .its;
       after = w .after;
-      above = y ++ w .above;
+      above = v ++ w .above;
       row = w .row;
       below = w .below;
       records = ap (λ (k : List Rec). q ∷ k) (w .records);
-      rows = ap (λ (k : List ℤ). y ++ k) (w .rows) ∙ sym (append-assoc y (w .above) (w .row ++ w .below));
-      as-many = omega (arith, w .as-many, o .ten, length-append y (w .above));
+      rows = ap (λ (k : List ℤ). v ++ k) (w .rows) ∙ sym (append-assoc v (w .above) (withLine (w .row) (pos (n + length (u ∷ us))) ++ w .below));
+      as-many = omega (arith, w .as-many, o .ten, length-append v (w .above), length-append y (pos n ∷ []));
       spells = w .spells;
       is = w .is;
     }

@@ -9,6 +9,7 @@ use Rattle.law.specs.Values.{Rec}
 use Rattle.law.specs.declared.Context.{Context}
 use Rattle.shown_spelling.proofs.FileSpelling.{record-not-free}
 use Rattle.law.specs.FieldPlaces.{Spot}
+use Rattle.law.specs.Rows.{withLine}
 use Rattle.law.specs.RowPlaces.{columnsOfAll, RowOf, RowsAt, end, free, line}
 use Rattle.shown_places.proofs.Spots.{places-unique}
 
@@ -29,9 +30,9 @@ module _ {b : ℕ} {l : List ℕ} {r : Rec} where
       let n : p .left ≡ q .left = omega (arith, u, v, w, length-replicate (p .left) (pos 0), length-replicate (q .left) (pos 0), p .ten, q .ten, ap length (p .is), ap length (q .is)) in
       p .is ∙ rw (o, n) (sym (q .is))
 
-pub rows-one : {c : Context} {file : List ℕ} {b : ℕ} {ls : List (List ℕ)} {rs : List Rec} {xs ys : List ℤ} → RowsAt c file b ls rs xs → RowsAt c file b ls rs ys → xs ≡ ys
+pub rows-one : {c : Context} {file : List ℕ} {b n : ℕ} {ls : List (List ℕ)} {rs : List Rec} {xs ys : List ℤ} → RowsAt c file b n ls rs xs → RowsAt c file b n ls rs ys → xs ≡ ys
 rows-one end end = refl
 rows-one (free h p) (free i q) = rows-one p q
 rows-one (free h p) (line i x q) = absurd (record-not-free i h)
 rows-one (line h x p) (free i q) = absurd (record-not-free h i)
-rows-one (line h x p) (line i y q) = ap₂ (λ (u w : List ℤ). u ++ w) (row-one x y) (rows-one p q)
+rows-one (line {n = n} h x p) (line i y q) = ap₂ (λ (u w : List ℤ). withLine u (pos n) ++ w) (row-one x y) (rows-one p q)

@@ -1,7 +1,7 @@
 -- The rows of a file hold the values of the records that its lines say, and say no other records.
 use Prim.Native.Nat.{ℕ, _*_}
 use mathlib.Core.Path.{_≡_, refl, sym, ap, _∙_, subst}
-use mathlib.Core.List.{List, [], _++_}
+use mathlib.Core.List.{List, [], _∷_, _++_}
 use mathlib.Core.Bool.{Bool, true, false, cond}
 use native.Mathlib.Omega.{arith}
 use lib.IntN.{ℤ, pos}
@@ -12,7 +12,7 @@ use Rattle.law.specs.Values.{Value, Rec}
 use Rattle.law.specs.Layouts.{typesOf}
 use Rattle.law.specs.declared.Rules.the-variants.{Idf3}
 use Rattle.law.specs.declared.FieldType.{FieldType}
-use Rattle.law.specs.Rows.{width, stride, Holds, RowsMean}
+use Rattle.law.specs.Rows.{width, stride, withLine, Holds, RowsMean}
 use Rattle.line_rows.proofs.MeaningLaws.{means-one, means-wide}
 use Rattle.law.specs.Records.{Named}
 use Rattle.order.specs.Automaton.{start, repeats, noted}
@@ -34,22 +34,22 @@ module _ (file : List ℕ) where
   in-nothing xs (ended rs st) m = m
   in-nothing xs (broken k n) m = tt
 
-  in-record : (r : Rec) (x xs : List ℤ) (y : Told) → Holds file (r .kind) (typesOf Idf3 (r .kind)) x (r .values) → Told-in xs y → Told-in (x ++ xs) (afterRecord r y)
-  in-record r x xs (ended rs st) h m = rows.row h m
-  in-record r x xs (broken k n) h m = tt
+  in-record : (r : Rec) (x xs : List ℤ) (l : ℤ) (y : Told) → Holds file (r .kind) (typesOf Idf3 (r .kind)) x (r .values) → Told-in xs y → Told-in (withLine x l ++ xs) (afterRecord r y)
+  in-record r x xs l (ended rs st) h m = rows.row l h m
+  in-record r x xs l (broken k n) h m = tt
 
   follows-rows : {st : State} {ls : List (List ℕ)} {k : ℕ} {t : Trace} → Follows file st ls k t → (used : List Named) → Told-in (rowsIn t) (toldFrom Idf3 used st ls)
   unfolding toldFrom rowsIn
   follows-rows (done a b) used = rows.none
   follows-rows (stop {st = st} {l = l} e) used = rw (line-used Idf3 used st l, e) tt
   follows-rows (skip {st = st} {l = l} {ls = ls} {t = t} e f) used = rw (line-used Idf3 used st l, e) (in-nothing (rowsIn t) (toldFrom Idf3 used st ls) (follows-rows f used))
-  follows-rows (row {st = st} {u = u} {l = l} {ls = ls} {r = r} {x = x} {t = t} e h f) used =
+  follows-rows (row {st = st} {u = u} {l = l} {ls = ls} {k = k} {r = r} {x = x} {t = t} e h f) used =
       rw (line-used Idf3 used st l, e) (go (repeats Idf3 used r) (follows-rows f (noted Idf3 used r)))
     where
       go : (b : Bool) → Told-in (rowsIn t) (toldFrom Idf3 (noted Idf3 used r) u ls)
-          → Told-in (x ++ rowsIn t) (goOn (cond b (wrong 12) (says r u)) (toldFrom Idf3 used st ls) (λ q w. toldFrom Idf3 (noted Idf3 used q) w ls))
+          → Told-in (withLine x (pos k) ++ rowsIn t) (goOn (cond b (wrong 12) (says r u)) (toldFrom Idf3 used st ls) (λ q w. toldFrom Idf3 (noted Idf3 used q) w ls))
       go true m = tt
-      go false m = in-record r x (rowsIn t) (toldFrom Idf3 (noted Idf3 used r) u ls) h m
+      go false m = in-record r x (rowsIn t) (pos k) (toldFrom Idf3 (noted Idf3 used r) u ls) h m
 
   -- a file whose lines are told to the end has a row for each record
   pub rows-told : (rs : List Rec) (st : State) → toldFrom Idf3 [] start (linesOf file) ≡ ended rs st → RowsMean file rs (rowsOf file)
@@ -59,9 +59,13 @@ module _ (file : List ℕ) where
 pub row-wide : {file : List ℕ} {k : ℕ} {ts : List FieldType} {x : List ℤ} {vs : List Value} → Holds file k ts x vs → length x ≡ width
 row-wide h = rw (h .is) (omega (arith, h .ten, length-append (h .columns) (replicate (h .left) (pos 0)), length-replicate (h .left) (pos 0)))
 
+-- and with its line the stride
+pub lined-wide : (x : List ℤ) (n : ℤ) → length x ≡ width → length (withLine x n) ≡ stride
+lined-wide x n h = omega (arith, length-append x (n ∷ []), h)
+
 pub rows-long : {file : List ℕ} {rs : List Rec} {xs : List ℤ} → RowsMean file rs xs → length xs ≡ stride * length rs
 rows-long rows.none = refl
-rows-long (rows.row {x = x} {xs = xs} h m) = omega (arith, row-wide h, rows-long m, length-append x xs)
+rows-long (rows.row {x = x} {xs = xs} n h m) = omega (arith, lined-wide x n (row-wide h), rows-long m, length-append (withLine x n) xs)
 
 -- One list of rows holds one list of records
 
@@ -71,6 +75,17 @@ columns-one cs ds es gs h e = sym (take-at cs es (length cs) refl) ∙ ap (take 
 
 pub rest-one : (cs ds es gs : List ℤ) → length cs ≡ length ds → cs ++ es ≡ ds ++ gs → es ≡ gs
 rest-one cs ds es gs h e = sym (drop-at cs es (length cs) refl) ∙ ap (drop (length cs)) e ∙ drop-at ds gs (length cs) (sym h)
+
+-- rows with their lines in front of others
+module _ (x y : List ℤ) (m n : ℤ) (xs ys : List ℤ) (g : length x ≡ width) (h : length y ≡ width) (e : withLine x m ++ xs ≡ withLine y n ++ ys) where
+  as-wide : length (withLine x m) ≡ length (withLine y n)
+  as-wide = lined-wide x m g ∙ sym (lined-wide y n h)
+
+  pub record-same : x ≡ y
+  record-same = columns-one x y (m ∷ []) (n ∷ []) (g ∙ sym h) (columns-one (withLine x m) (withLine y n) xs ys as-wide e)
+
+  pub behind-same : xs ≡ ys
+  behind-same = rest-one (withLine x m) (withLine y n) xs ys as-wide e
 
 kind-one : {file : List ℕ} {k j : ℕ} {ts us : List FieldType} {x : List ℤ} {vs ws : List Value} → Holds file k ts x vs → Holds file j us x ws → k ≡ j
 kind-one {k = k} {j = j} g h = let a = g .is in let b = h .is in cc
@@ -91,13 +106,12 @@ record-one {file} q r {x} g h =
 
 rows-same : {file : List ℕ} {rs qs : List Rec} {xs ys : List ℤ} → RowsMean file rs xs → RowsMean file qs ys → xs ≡ ys → rs ≡ qs
 rows-same rows.none rows.none e = refl
-rows-same rows.none (rows.row {x = x} {xs = xs} h m) e = absurd (omega (arith, row-wide h, ap length e, length-append x xs))
-rows-same (rows.row {x = x} {xs = xs} h m) rows.none e = absurd (omega (arith, row-wide h, ap length e, length-append x xs))
-rows-same {file} (rows.row {r = r} {rs = rs} {x = x} {xs = xs} g m) (rows.row {r = q} {x = y} {xs = ys} h n) e =
-    let w : length x ≡ length y = row-wide g ∙ sym (row-wide h) in
-    let i : x ≡ y = columns-one x y xs ys w e in
+rows-same rows.none (rows.row {x = x} {xs = xs} k h m) e = absurd (omega (arith, lined-wide x k (row-wide h), ap length e, length-append (withLine x k) xs))
+rows-same (rows.row {x = x} {xs = xs} k h m) rows.none e = absurd (omega (arith, lined-wide x k (row-wide h), ap length e, length-append (withLine x k) xs))
+rows-same {file} (rows.row {r = r} {x = x} {xs = xs} j g m) (rows.row {r = q} {x = y} {xs = ys} k h n) e =
+    let i : x ≡ y = record-same x y j k xs ys (row-wide g) (row-wide h) e in
     let a : r ≡ q = record-one r q g (rw (sym i) at h) in
-    rw (a, rows-same m n (rest-one x y xs ys w e))
+    rw (a, rows-same m n (behind-same x y j k xs ys (row-wide g) (row-wide h) e))
 
 pub rows-one : {file : List ℕ} {rs qs : List Rec} {xs : List ℤ} → RowsMean file rs xs → RowsMean file qs xs → rs ≡ qs
 rows-one a b = rows-same a b refl

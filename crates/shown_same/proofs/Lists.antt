@@ -3,12 +3,12 @@ use Prim.Native.Nat.{ℕ}
 use mathlib.Core.Path.{_≡_, refl, sym, ap, _∙_, subst}
 use mathlib.Core.List.{List, [], _∷_}
 use native.Mathlib.Omega.{arith}
-use lib.IntN.{ℤ}
+use lib.IntN.{ℤ, pos}
 use lib.ListN.{length, length-append}
 use Rattle.law.specs.Values.{Rec}
 use Rattle.law.specs.Layouts.{typesOf}
 use Rattle.law.specs.declared.Rules.the-variants.{Idf3}
-use Rattle.law.specs.Rows.{width, Holds, RowsMean}
+use Rattle.law.specs.Rows.{width, withLine, Holds, RowsMean}
 use Rattle.order.specs.declared.State.{State}
 use Rattle.walk.specs.Walks as walk
 use Rattle.walk.specs.Walks.{Trace}
@@ -18,7 +18,7 @@ use Rattle.law.specs.Files.{FileSays}
 use Rattle.shown_read.proofs.Traced as line
 use Rattle.shown_read.proofs.Traced.{Follows, trace-follows}
 use Rattle.shown_read.proofs.Checked.{check-rows}
-use Rattle.shown_read.proofs.RowsTold.{row-wide, columns-one, rest-one}
+use Rattle.shown_read.proofs.RowsTold.{row-wide, lined-wide, record-same, behind-same}
 use Rattle.same.specs.Ignoring.{nothing}
 use Rattle.same.specs.SameLists.{listIn, listOf, sameLists, sameFiles}
 use Rattle.shown_same.proofs.Values.{sameRecs}
@@ -46,17 +46,18 @@ follows-wide (line.row e h f) = row (row-wide h) (follows-wide f)
 module _ (file : List ℕ) where
   nothing-left : {rs : List Rec} {xs : List ℤ} → RowsMean file rs xs → xs ≡ [] → ListMeans file rs []
   nothing-left rows.none e = none
-  nothing-left (rows.row {x = x} {xs = xs} h m) e = absurd (omega (arith, row-wide h, ap length e, length-append x xs))
+  nothing-left (rows.row {x = x} {xs = xs} k h m) e = absurd (omega (arith, lined-wide x k (row-wide h), ap length e, length-append (withLine x k) xs))
 
   parted : {t : Trace} → Wide t → {rs : List Rec} {xs : List ℤ} → RowsMean file rs xs → xs ≡ rowsIn t → ListMeans file rs (listIn t)
   unfolding rowsIn listIn
   parted done m e = nothing-left m e
   parted stop m e = nothing-left m e
   parted (skip w) m e = parted w m e
-  parted (row {x = y} {t = t} n w) rows.none e = absurd (omega (arith, n, ap length e, length-append y (rowsIn t)))
-  parted (row {x = y} {t = t} n w) (rows.row {r = r} {x = x} {xs = xs} h m) e =
-      let l : length x ≡ length y = row-wide h ∙ sym n in
-      more (subst (λ (z : List ℤ). Holds file (r .kind) (typesOf Idf3 (r .kind)) z (r .values)) (columns-one x y xs (rowsIn t) l e) h) (parted w m (rest-one x y xs (rowsIn t) l e))
+  parted (row {l = l} {x = y} {t = t} n w) rows.none e = absurd (omega (arith, lined-wide y (pos l) n, ap length e, length-append (withLine y (pos l)) (rowsIn t)))
+  parted (row {l = l} {x = y} {t = t} n w) (rows.row {r = r} {x = x} {xs = xs} k h m) e =
+      let i = record-same x y k (pos l) xs (rowsIn t) (row-wide h) n e in
+      let j = behind-same x y k (pos l) xs (rowsIn t) (row-wide h) n e in
+      more (subst (λ (z : List ℤ). Holds file (r .kind) (typesOf Idf3 (r .kind)) z (r .values)) i h) (parted w m j)
 
   list-means : {rs : List Rec} → FileSays Idf3 rs file → ListMeans file rs (listOf file)
   list-means s = parted (follows-wide (trace-follows file)) (check-rows file s) refl

@@ -5,7 +5,7 @@ use mathlib.Core.List.{List, [], _∷_, _++_, append-assoc}
 use mathlib.Core.Bool.{Bool, true, false, not, false≢true}
 use borrow.Author.Tests.{eqb-true}
 use lib.Dec.{eqb}
-use lib.ListN.{take}
+use lib.ListN.{length, take}
 use Rattle.law.specs.Bytes.{permitted, inLine, endsIn, All}
 use Rattle.law.specs.Lines.{End, by-10, by-13-10, File, none, last, next}
 use Rattle.text.proofs.LineSpelling.{last-not}
@@ -80,6 +80,11 @@ module _ (v : Rules) where
   abbrev pub canonicalLines : List Rec → List (List ℕ)
   canonicalLines [] = []
   canonicalLines (r ∷ rs) = canonicalRecord v r ∷ canonicalLines rs
+
+  -- one for each record
+  pub canonical-long : (rs : List Rec) → length (canonicalLines rs) ≡ length rs
+  canonical-long [] = refl
+  canonical-long (r ∷ rs) = ap suc (canonical-long rs)
 
   module _ (u : FileType) where
     canonical-lines : {rs : List Rec} → Every (λ r. WellFormed (under v u) r) rs → Lines (canonicalLines rs)

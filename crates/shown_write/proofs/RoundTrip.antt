@@ -21,6 +21,8 @@ use Rattle.shown_told.proofs.Mending.{canonicalLines, canonical-file, canonical
 use Rattle.shown_told.proofs.WholeFiles.{one-list}
 use Rattle.shown_read.proofs.Checked.{check-rows, check-long, check-count}
 use Rattle.shown_read.proofs.ReadSays.{read-puts}
+use Rattle.shown_places.proofs.FileRows.{rows-at}
+use Rattle.shown_places.proofs.LineNumbers.{lines-rise}
 use Rattle.law.specs.Canonical.{canonicalText}
 use Rattle.shown_write.proofs.WholeRows.{all-whole}
 use Rattle.shown_write.proofs.RowsWritten.{write-says, write-puts}
@@ -49,9 +51,16 @@ pub round-trip : {rs : List Rec} → Permitted Idf3 rs → Distinct Idf3 rs → 
     → (checkReply (canonicalText Idf3 rs) ≡ reply 0 0 (length rs)) × RowsMean (canonicalText Idf3 rs) rs (rowsOf (canonicalText Idf3 rs))
 round-trip {rs} p d h = let s = canonical-spells Idf3 p d in (check-count (canonicalText Idf3 rs) h s, check-rows (canonicalText Idf3 rs) s)
 
--- the rows of a file that says a list say it too, over the file
+-- the rows of a file that says a list say it too, over the file, and their lines rise
 pub file-rows : (file : List ℕ) {rs : List Rec} → FileSays Idf3 rs file → RowsSay file rs (rowsOf file)
-file-rows file s = record { means = all-whole file (check-rows file s); permitted = s .say .permitted; distinct = s .say .distinct }
+file-rows file {rs} s =
+    let n : capacity (length (rowsOf file)) ≡ length rs = omega (arith, check-long file s) in
+    record {
+      means = all-whole file (check-rows file s);
+      permitted = s .say .permitted;
+      distinct = s .say .distinct;
+      rising = rw n (lines-rise (rows-at file s (s .made)) 0 (omega arith));
+    }
 
 -- Read, then write
 

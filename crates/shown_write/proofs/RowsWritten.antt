@@ -2,14 +2,15 @@
 use Prim.Native.Nat.{ℕ, _+_, _≤_, _<_}
 use mathlib.Core.Path.{_≡_, refl, ap, _∙_}
 use mathlib.Core.Logic.{_↔_}
-use mathlib.Core.List.{List, _++_}
+use mathlib.Core.List.{List, [], _∷_, _++_}
 use mathlib.Core.Bool.{Bool, true, false, cond, not, _&&_}
 use native.Mathlib.Omega.{arith}
 use borrow.Author.Tests.{not-true, ltb-false, lt-ltb, le-ltb, ne-eqb}
 use lib.Dec.{ltb, eqb}
-use lib.IntN.{ℤ}
+use lib.IntN.{ℤ, pos}
 use lib.ListN.{length, drop}
 use lib.Seq.{sets, sets-eq}
+use lib.Signed.{ltZ}
 use Rattle.basics.proofs.Bools.{and-left, and-right}
 use Rattle.law.specs.Values.{Rec}
 use Rattle.law.specs.declared.Rules.the-variants.{Idf3}
@@ -19,14 +20,25 @@ use Rattle.shown_lists.proofs.Complete.{permitted-accepted}
 use Rattle.law.specs.Answers.{limit, reply}
 use Rattle.law.specs.declared.Reply.{Reply}
 use Rattle.write.specs.WholeRows.{wholeRows}
+use Rattle.write.specs.LineNumbers.{rises, allRise}
 use Rattle.write.specs.Writable.{carries, twice, writable}
-use Rattle.write.specs.Outcomes.{textOf, sizedReply, writeReply, writeText}
-use Rattle.law.specs.Rows.{RowsMean, whole, RowsSay}
+use Rattle.write.specs.Outcomes.{textOf, sizedReply, mayWrite, writeReply, writeText}
+use Rattle.law.specs.Rows as lines
+use Rattle.law.specs.Rows.{RowsMean, whole, Rises, RowsSay}
 use Rattle.shown_read.proofs.RowsTold.{rows-one}
 use Rattle.law.specs.Canonical.{canonicalText}
 use Rattle.shown_write.proofs.WholeRows.{list-text, whole-wide, whole-list, list-whole}
 use Rattle.shown_write.proofs.RowsCarried.{carries-iff}
 use Rattle.shown_write.proofs.NamedOnce.{once-iff}
+
+-- lines are found to rise exactly where they do
+rises-iff : (m : ℤ) (ns : List ℤ) → (rises m ns ≡ true) ↔ Rises m ns
+unfolding rises
+rises-iff m [] = (λ h. lines.none, λ r. refl)
+rises-iff m (n ∷ ns) = (λ h. lines.next (and-left (ltZ m n) _ h) (rises-iff n ns .0 (and-right (ltZ m n) _ h)), all (rises-iff n ns .1))
+  where
+    all : (Rises n ns → rises n ns ≡ true) → Rises m (n ∷ ns) → (ltZ m n && rises n ns) ≡ true
+    all rest (lines.next h r) = rw (h, rest r)
 
 -- in front of what it does not cover
 abbrev before : List ℕ → List ℕ → List ℕ
@@ -62,35 +74,36 @@ module _ (rows : List ℤ) (bytes : List ℕ) where
   pub say-one : {rs qs : List Rec} → RowsSay bytes rs rows → RowsSay bytes qs rows → rs ≡ qs
   say-one a b = rows-one (a .means) (b .means)
 
-  pub writable-iff : (writable Idf3 bytes (wholeRows rows) ≡ true) ↔ ((rs : List Rec) × RowsSay bytes rs rows)
-  unfolding writable
+  pub writable-iff : (mayWrite Idf3 bytes rows ≡ true) ↔ ((rs : List Rec) × RowsSay bytes rs rows)
+  unfolding mayWrite writable
   writable-iff = (says, may)
     where
       xs : List (List ℤ)
       xs = wholeRows rows
 
-      says : (carries Idf3 bytes start xs && not (twice bytes xs)) ≡ true → (rs : List Rec) × RowsSay bytes rs rows
-      says h =
+      says : (allRise rows && (carries Idf3 bytes start xs && not (twice bytes xs))) ≡ true → (rs : List Rec) × RowsSay bytes rs rows
+      says g =
+          let h = and-right (allRise rows) _ g in
           let p = carries-iff Idf3 bytes xs start (whole-wide rows) .0 (and-left (carries Idf3 bytes start xs) _ h) in
           let t = not-true (twice bytes xs) (and-right (carries Idf3 bytes start xs) _ h) in
-          (p .0, record { means = list-whole bytes rows (p .1); permitted = accepted-permitted Idf3 (p .0) (p .2); distinct = once-iff Idf3 bytes (p .1) .0 t })
+          (p .0, record { means = list-whole bytes rows (p .1); permitted = accepted-permitted Idf3 (p .0) (p .2); distinct = once-iff Idf3 bytes (p .1) .0 t; rising = rises-iff (pos 0) _ .0 (and-left (allRise rows) _ g) })
 
-      may : (rs : List Rec) × RowsSay bytes rs rows → (carries Idf3 bytes start xs && not (twice bytes xs)) ≡ true
+      may : (rs : List Rec) × RowsSay bytes rs rows → (allRise rows && (carries Idf3 bytes start xs && not (twice bytes xs))) ≡ true
       may (rs, s) =
           let m = whole-list bytes rows (s .means) in
           let c = carries-iff Idf3 bytes xs start (whole-wide rows) .1 (rs, m, permitted-accepted Idf3 (s .permitted)) in
-          rw (c, once-iff Idf3 bytes m .1 (s .distinct))
+          rw (rises-iff (pos 0) _ .1 (s .rising), c, once-iff Idf3 bytes m .1 (s .distinct))
 
   module _ (room : ℕ) where
     -- 15 exactly where the rows mean no list that a file may say
     pub unwritable-iff : (writeReply rows bytes room .number ≡ 15) ↔ (((rs : List Rec) × RowsSay bytes rs rows) → ⊥)
     unfolding writeReply
-    unwritable-iff = (λ e s. sized-not-15 n room (rw (writable-iff .1 s) at e), λ d. go (writable Idf3 bytes (wholeRows rows)) refl d)
+    unwritable-iff = (λ e s. sized-not-15 n room (rw (writable-iff .1 s) at e), λ d. go (mayWrite Idf3 bytes rows) refl d)
       where
         n : ℕ
         n = length (textOf Idf3 bytes (wholeRows rows))
 
-        go : (b : Bool) → writable Idf3 bytes (wholeRows rows) ≡ b → (((rs : List Rec) × RowsSay bytes rs rows) → ⊥)
+        go : (b : Bool) → mayWrite Idf3 bytes rows ≡ b → (((rs : List Rec) × RowsSay bytes rs rows) → ⊥)
             → cond b (sizedReply n room) (reply 15 0 0) .number ≡ 15
         go true e d = absurd (d (writable-iff .0 e))
         go false e d = refl
@@ -98,9 +111,9 @@ module _ (rows : List ℤ) (bytes : List ℕ) where
     -- and then the whole answer is 15
     pub unwritable-reply : (((rs : List Rec) × RowsSay bytes rs rows) → ⊥) → writeReply rows bytes room ≡ reply 15 0 0
     unfolding writeReply
-    unwritable-reply d = go (writable Idf3 bytes (wholeRows rows)) refl
+    unwritable-reply d = go (mayWrite Idf3 bytes rows) refl
       where
-        go : (b : Bool) → writable Idf3 bytes (wholeRows rows) ≡ b → cond b (sizedReply (length (textOf Idf3 bytes (wholeRows rows))) room) (reply 15 0 0) ≡ reply 15 0 0
+        go : (b : Bool) → mayWrite Idf3 bytes rows ≡ b → cond b (sizedReply (length (textOf Idf3 bytes (wholeRows rows))) room) (reply 15 0 0) ≡ reply 15 0 0
         go true e = absurd (d (writable-iff .0 e))
         go false e = refl
 

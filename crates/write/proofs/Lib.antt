@@ -4,3 +4,4 @@ pub mod MarkLaws
 pub mod Anywhere
 pub mod TextLaws
 pub mod WholeLaws
+pub mod NumberLaws

@@ -9,7 +9,7 @@ use lib.Dec.{eqb}
 use lib.IntN.{ℤ}
 use lib.ListN.{length}
 use lib.Seq.{sets}
-use Rattle.basics.proofs.Bools.{and-left}
+use Rattle.basics.proofs.Bools.{and-left, and-right}
 use Rattle.law.specs.declared.Rules.{Rules}
 use Rattle.law.specs.declared.Rules.the-variants.{Idf3}
 use Rattle.order.specs.Automaton.{start}
@@ -18,23 +18,35 @@ use Rattle.law.specs.declared.Reply.{Reply}
 use Rattle.write_lines.specs.LineText.{upTo}
 use Rattle.write_lines.proofs.PieceLaws.{up-under, up-past}
 use Rattle.write.specs.WholeRows.{wholeRows}
+use Rattle.write.specs.LineNumbers.{allRise}
 use Rattle.write.specs.Writable.{carries, twice, writable}
-use Rattle.write.specs.Outcomes.{textOf, allFit, sizedReply, writeReply, writeText}
+use Rattle.write.specs.Outcomes.{textOf, allFit, sizedReply, mayWrite, writeReply, writeText}
 use Rattle.write.proofs.Anywhere.{carries-fit}
 
--- in order and fitting, then no name used twice
-module _ (v : Rules) (bytes : List ℕ) (xs : List (List ℤ)) (x : Bool) (e : x ≡ carries v bytes start xs) where
-  pub writable-not : x ≡ false → false ≡ writable v bytes xs
-  unfolding writable
-  writable-not h = rw (sym e ∙ h)
+-- lines that rise, then in order and fitting, then no name used twice
+module _ (v : Rules) (bytes : List ℕ) (rows : List ℤ) (a : Bool) (g : a ≡ allRise rows) where
+  pub writable-fallen : not a ≡ true → false ≡ mayWrite v bytes rows
+  unfolding mayWrite
+  writable-fallen h = rw (sym g ∙ not-true a h)
 
-  pub writable-by : (y : Bool) → x ≡ true → y ≡ twice bytes xs → not y ≡ writable v bytes xs
-  unfolding writable
-  writable-by y h i = rw (sym e ∙ h, i)
+  module _ (k : not a ≡ false) (x : Bool) (e : x ≡ carries v bytes start (wholeRows rows)) where
+    risen : mayWrite v bytes rows ≡ writable v bytes (wholeRows rows)
+    unfolding mayWrite
+    risen = rw (sym g ∙ not-false a k)
 
-pub writable-fit : (v : Rules) (bytes : List ℕ) (xs : List (List ℤ)) → writable v bytes xs ≡ true → allFit v bytes xs ≡ true
-unfolding writable
-writable-fit v bytes xs h = carries-fit v bytes xs start (and-left (carries v bytes start xs) _ h)
+    pub writable-not : x ≡ false → false ≡ mayWrite v bytes rows
+    unfolding writable
+    writable-not h = rw (risen, sym e ∙ h)
+
+    pub writable-by : (y : Bool) → x ≡ true → y ≡ twice bytes (wholeRows rows) → not y ≡ mayWrite v bytes rows
+    unfolding writable
+    writable-by y h i = rw (risen, sym e ∙ h, i)
+
+pub writable-fit : (v : Rules) (bytes : List ℕ) (rows : List ℤ) → mayWrite v bytes rows ≡ true → allFit v bytes (wholeRows rows) ≡ true
+unfolding mayWrite writable
+writable-fit v bytes rows h =
+    let xs = wholeRows rows in
+    carries-fit v bytes xs start (and-left (carries v bytes start xs) _ (and-right (allRise rows) _ h))
 
 -- a reply other than 0 leaves the slice as it was
 module _ (rows : List ℤ) (bytes old : List ℕ) where
@@ -42,7 +54,7 @@ module _ (rows : List ℤ) (bytes old : List ℕ) where
   unfolding writeText
   kept q e h = rw (e, h)
 
-  module _ (x : Bool) (e : x ≡ writable Idf3 bytes (wholeRows rows)) where
+  module _ (x : Bool) (e : x ≡ mayWrite Idf3 bytes rows) where
     reply-fifteen : not x ≡ true → writeReply rows bytes (length old) ≡ reply 15 0 0
     unfolding writeReply
     reply-fifteen h = rw (sym e ∙ not-true x h)
@@ -55,7 +67,7 @@ module _ (rows : List ℤ) (bytes old : List ℕ) where
 
     module _ (h : not x ≡ false) where
       pub all-fit : allFit Idf3 bytes (wholeRows rows) ≡ true
-      all-fit = writable-fit Idf3 bytes (wholeRows rows) (sym e ∙ not-false x h)
+      all-fit = writable-fit Idf3 bytes rows (sym e ∙ not-false x h)
 
       sized : writeReply rows bytes (length old) ≡ sizedReply (length (textOf Idf3 bytes (wholeRows rows))) (length old)
       unfolding writeReply

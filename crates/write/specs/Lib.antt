@@ -1,4 +1,5 @@
 pub mod WholeRows
+pub mod LineNumbers
 pub mod Writable
 pub mod Outcomes
 pub mod Marks

@@ -13,6 +13,7 @@ use Rattle.law.specs.declared.Reply.{Reply}
 use Rattle.write_columns.specs.Columns.{rowFits}
 use Rattle.write_lines.specs.LineText.{lineText, anywhere}
 use Rattle.write.specs.WholeRows.{wholeRows}
+use Rattle.write.specs.LineNumbers.{allRise}
 use Rattle.write.specs.Writable.{writable}
 
 -- the lines of rows
@@ -29,11 +30,13 @@ allFit v bytes (x ∷ xs) = rowFits (anywhere v) bytes x && allFit v bytes xs
 abbrev pub sizedReply : ℕ → ℕ → Reply
 sizedReply n room = cond (ltb limit n) (reply 1 0 0) (cond (ltb room n) (reply 14 0 n) (reply 0 0 n))
 
--- 15 first, where the rows mean nothing that a file may say
+-- the whole rows of a slice are a list that a file may say, and their lines rise
+unfoldable pub mayWrite : Rules → List ℕ → List ℤ → Bool
+mayWrite v bytes rows = allRise rows && writable v bytes (wholeRows rows)
+
+-- 15 first, where the rows mean nothing that a file may say or their lines do not rise
 unfoldable pub writeReply : List ℤ → List ℕ → ℕ → Reply
-writeReply rows bytes room =
-    let xs = wholeRows rows in
-    cond (writable Idf3 bytes xs) (sizedReply (length (textOf Idf3 bytes xs)) room) (reply 15 0 0)
+writeReply rows bytes room = cond (mayWrite Idf3 bytes rows) (sizedReply (length (textOf Idf3 bytes (wholeRows rows))) room) (reply 15 0 0)
 
 -- the text in front of what was there; on every refusal what was there
 unfoldable pub writeText : List ℤ → List ℕ → List ℕ → List ℕ

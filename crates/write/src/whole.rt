@@ -1,5 +1,6 @@
 // Rows into canonical text.
 use crate::carried;
+use crate::numbers;
 use crate::repeats;
 use crate::texts;
 use law::Reply;
@@ -9,9 +10,7 @@ use order::LIMIT;
 ghost use mathlib.Core.Path.{_≡_};
 ghost use lib.ListN.{length};
 ghost use Rattle.law.specs.Answers.{reply};
-ghost use Rattle.write.specs.WholeRows.{wholeRows};
-ghost use Rattle.write.specs.Writable.{writable};
-ghost use Rattle.write.specs.Outcomes.{writeReply, writeText};
+ghost use Rattle.write.specs.Outcomes.{mayWrite, writeReply, writeText};
 
 // A reply without a line.
 fn answer(number: u64, count: u64) -> Reply
@@ -24,10 +23,13 @@ fn answer(number: u64, count: u64) -> Reply
     }
 }
 
-// Whether rows are a list that a file may say.
+// Whether rows are a list that a file may say, and their lines rise.
 fn is_writable(v: Rules, rows: &[i64], bytes: &[u8]) -> bool
-    ensures { λ r. ⌜ r ≡ writable v (now (bytes .entry)) (wholeRows (now (rows .entry))) ⌝ }
+    ensures { λ r. ⌜ r ≡ mayWrite v (now (bytes .entry)) (now (rows .entry)) ⌝ }
 {
+    if !numbers::rise(rows) {
+        return false;
+    }
     if carried::carry(v, rows, bytes) {
         return !repeats::some_twice(rows, bytes);
     }

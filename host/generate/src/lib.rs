@@ -7,6 +7,7 @@
 mod damage;
 mod files;
 mod letters;
+mod lines;
 mod pen;
 mod random;
 mod sections;
@@ -14,6 +15,7 @@ mod values;
 
 pub use damage::{changed, damaged};
 pub use files::{board, lettered, library, matched, panel};
+pub use lines::lines;
 pub use random::Random;
 
 /// A small file by its number: those of even numbers are whole, the others damaged.

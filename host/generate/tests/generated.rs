@@ -3,8 +3,10 @@
 
 use std::collections::{BTreeMap, BTreeSet};
 
-use generate::{board, changed, damaged, file, lettered, matched, panel, windows_copy, Random};
-use second::{canon, check, judge, read, rows, same, write, Reader, Reply};
+use generate::{
+    board, changed, damaged, file, lettered, lines, matched, panel, windows_copy, Random,
+};
+use second::{canon, check, judge, read, rows, same, write, Reader, Reply, Row, LINE, STRIDE};
 
 const FILES: u64 = 20_000;
 
@@ -103,7 +105,7 @@ fn damage_reaches_letters_in_each_way() {
         let hurt = damaged(&mut random, &whole);
         let reply = check(&hurt);
         let line = hurt.split(|&byte| byte == b'\n').nth((reply.line as usize).saturating_sub(1));
-        let last = line.and_then(|line| line.split(|&byte| byte == b' ').last()).unwrap_or(&[]);
+        let last = line.and_then(|line| line.rsplit(|&byte| byte == b' ').next()).unwrap_or(&[]);
         let what = match (reply.number, last) {
             (0, _) if hurt != whole && hurt.eq_ignore_ascii_case(&whole) => {
                 ["another text", "other letters"][same(&whole, &hurt).0.count as usize]
@@ -147,16 +149,18 @@ fn replies_agree_with_each_other() {
 fn accepted(seed: u64, file: &[u8], count: u64) {
     let list = rows(file).expect("accepted by check");
     assert_eq!(list.len() as u64, count, "{seed}");
-    let mut lent = vec![-1; 10 * list.len() + 7];
+    let (numbers, more) = (STRIDE * list.len(), STRIDE - 1);
+    let mut lent = vec![-1; numbers + more];
     assert_eq!(read(file, &mut lent), Reply { number: 0, line: 0, count }, "{seed}");
-    assert_eq!(
-        (&lent[..10 * list.len()], &lent[10 * list.len()..]),
-        (&list.concat()[..], &[-1; 7][..])
-    );
+    assert_eq!((&lent[..numbers], &lent[numbers..]), (&list.concat()[..], &vec![-1; more][..]));
+    assert_eq!(lines_of(&list), lines_with_fields(file), "{seed}");
+    let copy = rows(&windows_copy(file)).expect("a copy is accepted");
+    assert_eq!(lines_of(&copy), lines_of(&list), "{seed}");
 
     let text = canon(file).expect("a small canonical text");
     let again = rows(&text).expect("canonical text is accepted");
     assert_eq!(meaning(&list, file), meaning(&again, &text), "{seed}");
+    assert!(lines_of(&again).into_iter().eq(1..=count as i64), "{seed}");
     assert_eq!(canon(&text).as_ref(), Ok(&text), "{seed}");
     assert!(!text.contains(&b'\r'), "{seed}");
     for other in [&text, &windows_copy(file)] {
@@ -166,6 +170,19 @@ fn accepted(seed: u64, file: &[u8], count: u64) {
     let mut out = vec![b'?'; text.len() + 3];
     assert_eq!(write(&list.concat(), file, &mut out).count, text.len() as u64, "{seed}");
     assert_eq!(out, [&text[..], b"???"].concat(), "{seed}");
+}
+
+/// The line of each row.
+fn lines_of(list: &[Row]) -> Vec<i64> {
+    list.iter().map(|row| row[LINE]).collect()
+}
+
+/// The numbers of a file's lines, from 1, that are neither comments nor blank.
+fn lines_with_fields(file: &[u8]) -> Vec<i64> {
+    let lines = (1..).zip(file.split(|&byte| byte == b'\n'));
+    let is_free =
+        |line: &[u8]| line.starts_with(b"#") || line.iter().all(|byte| b" \r".contains(byte));
+    lines.filter(|(_, line)| !is_free(line)).map(|(number, _)| number).collect()
 }
 
 /// The columns of each kind where a text's start stands, written out once more from document 01.
@@ -192,16 +209,17 @@ fn names(kind: i64, column: usize) -> &'static [&'static str] {
 }
 
 /// The text whose start stands in a column.
-fn text_at<'a>(row: &[i64; 10], column: usize, bytes: &'a [u8]) -> &'a [u8] {
+fn text_at<'a>(row: &Row, column: usize, bytes: &'a [u8]) -> &'a [u8] {
     let start = row[column] as usize;
     &bytes[start..start + row[column + 1] as usize]
 }
 
-/// Rows with 0 in place of each text's start, and what the texts mean.
-fn meaning(list: &[[i64; 10]], bytes: &[u8]) -> (Vec<[i64; 10]>, Vec<Vec<u8>>) {
+/// Rows with 0 in place of their lines and of each text's start, and what the texts mean.
+fn meaning(list: &[Row], bytes: &[u8]) -> (Vec<Row>, Vec<Vec<u8>>) {
     let mut texts = Vec::new();
     let bare = list.iter().map(|row| {
         let mut bare = *row;
+        bare[LINE] = 0;
         for &column in text_starts(row[0]) {
             let text = text_at(row, column, bytes);
             let capitals = text.to_ascii_uppercase();
@@ -216,7 +234,7 @@ fn meaning(list: &[[i64; 10]], bytes: &[u8]) -> (Vec<[i64; 10]>, Vec<Vec<u8>>) {
 
 /// What holds of a refused file: nothing is written, and the lines before the faulty one are good.
 fn refused(seed: u64, file: &[u8], reply: Reply) {
-    let mut lent = vec![-1; 10 * file.len() + 10];
+    let mut lent = vec![-1; STRIDE * (file.len() + 1)];
     assert_eq!(read(file, &mut lent), reply, "{seed}");
     assert!(lent.iter().all(|&number| number == -1), "{seed}");
     assert_eq!((rows(file), canon(file)), (Err(reply), Err(reply)), "{seed}");
@@ -268,6 +286,29 @@ fn rows_that_are_written_are_read_back() {
             assert!(reply.number == 15 && out.iter().all(|&byte| byte == 0), "{seed}: {reply:?}");
         }
     }
+    assert!(seen[0] > 1000 && seen[15] > 1000, "{seen:?}");
+}
+
+#[test]
+fn rows_are_written_exactly_if_their_lines_rise() {
+    let mut seen = [0; 16];
+    for seed in (0..FILES).step_by(2) {
+        let file = file(seed);
+        let text = canon(&file).expect("a whole file");
+        let mut random = Random::new(!seed);
+        let mut list = rows(&file).expect("a whole file");
+        let lines = lines(&mut random, list.len());
+        for (row, &line) in list.iter_mut().zip(&lines) {
+            row[LINE] = line;
+        }
+        let rise = lines[0] >= 1 && lines.windows(2).all(|pair| pair[0] < pair[1]);
+        let mut out = vec![b'?'; text.len()];
+        let reply = write(&list.concat(), &file, &mut out);
+        seen[reply.number as usize] += 1;
+        assert_eq!(reply.number, if rise { 0 } else { 15 }, "{seed}");
+        assert!(if rise { out == text } else { out.iter().all(|&byte| byte == b'?') }, "{seed}");
+    }
+    println!("other lines, replies by number: {seen:?}");
     assert!(seen[0] > 1000 && seen[15] > 1000, "{seen:?}");
 }
 

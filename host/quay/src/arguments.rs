@@ -37,7 +37,7 @@ pub enum Command {
         /// A board, panel or library file
         file: PathBuf,
     },
-    /// Print the rows of an accepted file, ten numbers a line
+    /// Print the rows of an accepted file, eleven numbers a line: kind, fields, and the line that the row came from
     Rows {
         /// On a refusal print `number line count`
         #[arg(long)]
@@ -47,7 +47,7 @@ pub enum Command {
     },
     /// Print the canonical text of rows, or `number line count` if they are refused
     Write {
-        /// The rows, as `quay rows` prints them: ten numbers each, with spaces or line ends between
+        /// The rows, as `quay rows` prints them: eleven numbers each, with spaces or line ends between
         rows: PathBuf,
         /// The bytes that the rows' texts stand in
         text: PathBuf,
@@ -66,6 +66,34 @@ pub enum Command {
         /// Print `number line count which` only
         #[arg(long)]
         plain: bool,
+        /// A board, panel or library file
+        #[arg(value_name = "A")]
+        first: PathBuf,
+        /// Another one
+        #[arg(value_name = "B")]
+        second: PathBuf,
+    },
+    /// Say where two files differ, record by record, with the line of each
+    ///
+    /// Whether they differ, and so the exit code, is the answer of the proved comparison, as `quay same` gives it. What is said
+    /// of their records is not proved: it is this command's own work over the rows that the proved reader gives.
+    ///
+    /// A difference is a field that has another value in the second file, or a record of one file alone.
+    Diff {
+        /// Print lines for programs
+        ///
+        /// First `number line count which`, as `quay same --plain` does. Where the files differ, the number of differences
+        /// in all, then a line for each, its parts with tabs between: `changed`, `first` or `second` (a record of that file
+        /// alone), section, kind, line in the first file, line in the second, 0 for none; then the field's name and its two
+        /// values, or the record's values in order.
+        #[arg(long, conflicts_with = "json")]
+        plain: bool,
+        /// Print JSON: the files, the verdict, the number of differences, whether the list was cut, and the list
+        #[arg(long)]
+        json: bool,
+        /// How many differences to print, 0 for all
+        #[arg(long, value_name = "N", default_value_t = 100)]
+        limit: usize,
         /// A board, panel or library file
         #[arg(value_name = "A")]
         first: PathBuf,

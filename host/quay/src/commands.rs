@@ -3,10 +3,10 @@
 use std::io::Write;
 use std::path::{Path, PathBuf};
 
-use quayladle::{Reason, Refusal, Reply, Verdict};
+use quayladle::{Reason, Refusal, Reply, Verdict, LINE, STRIDE};
 
 use crate::ending::{tell, Ending, Failure};
-use crate::input;
+use crate::input::{self, Numbers};
 use crate::showing::{counted, plain, plain_verdict, printable, refused, shown};
 
 /// The kind of a placement's first row: package, part and reference.
@@ -54,7 +54,7 @@ pub fn canon(path: &Path, is_plain: bool, out: &mut impl Write) -> Result<Ending
     }
 }
 
-/// The rows of a file, ten numbers a line.
+/// The rows of a file, eleven numbers a line.
 pub fn rows(path: &Path, is_plain: bool, out: &mut impl Write) -> Result<Ending, Failure> {
     match quayladle::rows(&input::bytes(path)?) {
         Ok(rows) => {
@@ -69,7 +69,14 @@ pub fn rows(path: &Path, is_plain: bool, out: &mut impl Write) -> Result<Ending,
 
 /// The canonical text of rows over the bytes of a file.
 pub fn write(rows: &Path, text: &Path, out: &mut impl Write) -> Result<Ending, Failure> {
-    match quayladle::text_of(&input::numbers(rows)?, &input::bytes(text)?) {
+    let Numbers { list, are_tens } = input::numbers(rows)?;
+    let written = quayladle::text_of(&list, &input::bytes(text)?);
+    // Rows of eleven may be laid out by tens: then they are whole rows, and mean something.
+    let is_meant = !matches!(written, Err(Refusal { reason: Reason::Meaningless, .. }));
+    if are_tens && !(list.len() % STRIDE == 0 && is_meant) {
+        return Err(Failure::OldRows(rows.to_path_buf()));
+    }
+    match written {
         Ok(canonical) => {
             out.write_all(&canonical)?;
             Ok(Ending::Accepted)
@@ -100,7 +107,16 @@ fn say_refused(
 /// Whether two files mean the same.
 pub fn same(paths: [&Path; 2], is_plain: bool, out: &mut impl Write) -> Result<Ending, Failure> {
     let files = [input::bytes(paths[0])?, input::bytes(paths[1])?];
-    let verdict = quayladle::same(&files[0], &files[1]);
+    say_same(paths, quayladle::same(&files[0], &files[1]), is_plain, out)
+}
+
+/// Says what comparing two files answered.
+pub fn say_same(
+    paths: [&Path; 2],
+    verdict: Verdict,
+    is_plain: bool,
+    out: &mut impl Write,
+) -> Result<Ending, Failure> {
     let [first, second] = paths.map(shown);
     match verdict.reply.done() {
         _ if is_plain => writeln!(out, "{}", plain_verdict(verdict))?,
@@ -110,8 +126,15 @@ pub fn same(paths: [&Path; 2], is_plain: bool, out: &mut impl Write) -> Result<E
             writeln!(out, "{}", refused(refused_name(&first, &second, verdict), refusal))?
         }
     }
-    let is_same = verdict.reply == Reply { number: 0, line: 0, count: 1 };
-    Ok(if is_same { Ending::Accepted } else { Ending::Refused })
+    Ok(compared(verdict))
+}
+
+/// How comparing two files ends.
+pub fn compared(verdict: Verdict) -> Ending {
+    match verdict.reply.done() {
+        Ok(1) => Ending::Accepted,
+        _ => Ending::Refused,
+    }
 }
 
 /// Whether each placement of a board or panel has its entry in a library.
@@ -128,9 +151,12 @@ pub fn judge(paths: [&Path; 2], is_plain: bool, out: &mut impl Write) -> Result<
                 counted(count, "placement")
             )?;
         }
+        Err(refusal) if refusal.reason == Reason::NoEntry => {
+            let (line, names) = placement(&files[0], refusal.count);
+            writeln!(out, "{}{names}", refused(&board, Refusal { line, ..refusal }))?;
+        }
         Err(refusal) => {
-            let words = refused(refused_name(&board, &library, verdict), refusal);
-            writeln!(out, "{words}{}", placement_named(&files[0], refusal))?;
+            writeln!(out, "{}", refused(refused_name(&board, &library, verdict), refusal))?;
         }
     }
     Ok(if verdict.reply.number == 0 { Ending::Accepted } else { Ending::Refused })
@@ -145,16 +171,14 @@ fn refused_name<'a>(first: &'a str, second: &'a str, verdict: Verdict) -> &'a st
     }
 }
 
-/// The package, part and reference of a placement that lacks its entry, as they are meant: ` (cc1210 pn-cc1210 C3)`.
-fn placement_named(board: &[u8], refusal: Refusal) -> String {
-    if refusal.reason != Reason::NoEntry {
-        return String::new();
-    }
+/// The line of a placement by its number from 1, and its package, part and reference as they are meant:
+/// ` (cc1210 pn-cc1210 C3)`.
+fn placement(board: &[u8], number: u64) -> (u64, String) {
     let rows = quayladle::rows(board).unwrap_or_default();
     let mut placements = rows.iter().filter(|row| row[0] == PLACEMENT);
-    let Some(row) = placements.nth((refusal.count as usize).saturating_sub(1)) else {
-        return String::new();
+    let Some(row) = placements.nth((number as usize).saturating_sub(1)) else {
+        return (0, String::new());
     };
     let names = [1, 3, 5].map(|column| quayladle::text(row, column, board).unwrap_or_default());
-    format!(" ({})", names.map(printable).join(" "))
+    (row[LINE] as u64, format!(" ({})", names.map(printable).join(" ")))
 }

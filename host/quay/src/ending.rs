@@ -31,6 +31,8 @@ pub enum Failure {
     File(PathBuf, io::Error),
     /// A file of rows with something else in it, and on which line.
     NoRows(PathBuf, usize),
+    /// A file of rows without their lines, as older versions printed them.
+    OldRows(PathBuf),
     /// Standard output does not take what is written.
     Output(io::Error),
 }
@@ -58,7 +60,15 @@ impl fmt::Display for Failure {
         match self {
             Failure::File(path, error) => write!(f, "{}: {error}", shown(path)),
             Failure::NoRows(path, line) => {
-                write!(f, "{}:{line}: a row is ten whole numbers of 64 bits", shown(path))
+                write!(f, "{}:{line}: a row is eleven whole numbers of 64 bits", shown(path))
+            }
+            Failure::OldRows(path) => {
+                write!(
+                    f,
+                    "{}: rows of ten numbers, as older versions printed them; a row has eleven, the last its line: \
+                    print the rows again with `quay rows`",
+                    shown(path)
+                )
             }
             Failure::Output(error) => write!(f, "standard output: {error}"),
         }

@@ -2,9 +2,11 @@
 
 mod arguments;
 mod commands;
+mod diff;
 mod ending;
 mod fields;
 mod input;
+mod json;
 mod shelf;
 mod showing;
 
@@ -14,6 +16,7 @@ use std::process::ExitCode;
 use clap::Parser;
 
 use arguments::{Arguments, Command};
+use diff::Form;
 use ending::{Ending, Failure};
 
 fn main() -> ExitCode {
@@ -41,6 +44,14 @@ fn run(command: Command, out: &mut impl Write) -> Result<Ending, Failure> {
         Command::Write { rows, text } => commands::write(&rows, &text, out),
         Command::Fields { plain, file } => fields::command(&file, plain, out),
         Command::Same { plain, first, second } => commands::same([&first, &second], plain, out),
+        Command::Diff { plain, json, limit, first, second } => {
+            let form = match (plain, json) {
+                (true, _) => Form::Plain,
+                (_, true) => Form::Json,
+                _ => Form::Text,
+            };
+            diff::command([&first, &second], limit, form, out)
+        }
         Command::Judge { plain, board, library } => commands::judge([&board, &library], plain, out),
         Command::Shelf { folder, all, json, report } => {
             shelf::command(&folder, all, json, report.as_deref(), out)

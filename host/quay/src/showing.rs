@@ -9,10 +9,13 @@ pub fn shown(path: &Path) -> String {
     printable(path.as_os_str().as_encoded_bytes())
 }
 
-/// Bytes as they can be printed on one line: what would move the cursor is spelled out.
+/// Bytes as they can be printed on one line: what would move the cursor, and what is no UTF-8, is spelled out.
 pub fn printable(bytes: &[u8]) -> String {
     let mut out = String::new();
-    for letter in String::from_utf8_lossy(bytes).chars() {
+    let Ok(text) = std::str::from_utf8(bytes) else {
+        return bytes.escape_ascii().to_string();
+    };
+    for letter in text.chars() {
         match letter.is_control() {
             true => out.extend(letter.escape_default()),
             false => out.push(letter),
@@ -72,5 +75,6 @@ mod tests {
     #[test]
     fn a_name_stays_on_its_line() {
         assert_eq!(shown(Path::new("a\nb\u{1b}[2J é")), "a\\nb\\u{1b}[2J é");
+        assert_eq!(printable(b"M\xfcller\n"), "M\\xfcller\\n");
     }
 }

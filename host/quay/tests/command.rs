@@ -1,49 +1,15 @@
 //! The command as people run it: what it prints on the samples, and its exit codes.
 
+mod common;
+
 use std::ffi::OsStr;
 use std::fs;
-use std::path::{Path, PathBuf};
-use std::process::{Command, Output, Stdio};
+use std::process::Stdio;
 
 use serde_json::{json, Value};
 use sha2::{Digest, Sha256};
 
-const SAMPLES: &str = concat!(env!("CARGO_MANIFEST_DIR"), "/../../samples");
-
-/// The command, run in the folder of the samples; under an emulator where the machine needs one.
-fn quay() -> Command {
-    let runner = std::env::var_os("QUAY_RUNNER");
-    let mut words = runner.into_iter().chain([env!("CARGO_BIN_EXE_quay").into()]);
-    let mut command = Command::new(words.next().expect("a program"));
-    command.args(words).current_dir(SAMPLES);
-    command
-}
-
-fn run(arguments: &[impl AsRef<OsStr>]) -> Output {
-    quay().args(arguments).output().expect("the command starts")
-}
-
-/// What a line of words prints and how it ends.
-fn said(line: &str) -> (String, i32) {
-    let output = run(&line.split(' ').collect::<Vec<_>>());
-    (text(&output.stdout), output.status.code().expect("an exit code"))
-}
-
-fn sample(name: &str) -> Vec<u8> {
-    fs::read(Path::new(SAMPLES).join(name)).expect("a sample")
-}
-
-fn text(bytes: &[u8]) -> String {
-    String::from_utf8(bytes.to_vec()).expect("text")
-}
-
-/// A folder of this test's own, empty.
-fn folder(name: &str) -> PathBuf {
-    let folder = Path::new(env!("CARGO_TARGET_TMPDIR")).join(name);
-    let _ = fs::remove_dir_all(&folder);
-    fs::create_dir_all(&folder).expect("a folder");
-    folder
-}
+use common::{folder, quay, run, said, sample, text};
 
 #[test]
 fn check_says_a_line_for_each_file() {
@@ -79,16 +45,6 @@ fn a_wrong_command_line_ends_with_2() {
 }
 
 #[test]
-fn rows_are_ten_numbers_a_line() {
-    let (words, code) = said("rows shelf/libraries/connectors.emp");
-    assert_eq!(words.lines().count(), 11);
-    assert_eq!(words.lines().nth(1), Some("11 2 300000 26 21 49 19 1 0 0"));
-    assert_eq!(code, 0);
-    assert_eq!(said("rows --plain board.emn"), ("9 2 0\n".to_string(), 1));
-    assert_eq!(said("rows board.emn"), (String::new(), 1));
-}
-
-#[test]
 fn canonical_text_is_that_of_the_second_reader() {
     for name in [
         "board_dated.emn",
@@ -101,23 +57,6 @@ fn canonical_text_is_that_of_the_second_reader() {
     }
     assert_eq!(said("canon --plain library.emp"), ("9 2 0\n".to_string(), 1));
     assert_eq!(said("canon library.emp"), (String::new(), 1));
-}
-
-#[test]
-fn rows_are_written_over_their_text() {
-    let folder = folder("write");
-    let rows = folder.join("rows");
-    fs::write(&rows, run(&["rows", "panel_dated.emn"]).stdout).expect("a file");
-    let written = run(&[OsStr::new("write"), rows.as_os_str(), OsStr::new("panel_dated.emn")]);
-    assert_eq!(written.stdout, run(&["canon", "panel_dated.emn"]).stdout);
-
-    let refused = run(&[OsStr::new("write"), rows.as_os_str(), OsStr::new("/dev/null")]);
-    assert_eq!((text(&refused.stdout).as_str(), refused.status.code()), ("15 0 0\n", Some(1)));
-
-    fs::write(&rows, "10 0\n11 x\n").expect("a file");
-    let broken = run(&[OsStr::new("write"), rows.as_os_str(), OsStr::new("panel_dated.emn")]);
-    assert_eq!((broken.stdout.len(), broken.status.code()), (0, Some(2)));
-    assert!(text(&broken.stderr).contains("rows:2: a row is ten whole numbers"));
 }
 
 #[test]
@@ -146,11 +85,12 @@ fn judge_names_the_placement_that_lacks_its_entry() {
     let (words, code) = said("judge board_dated.emn shelf/libraries/connectors.emp");
     assert_eq!(
         words,
-        "board_dated.emn: 16 no library entry: the library has no component with this package and part; \
+        "board_dated.emn:193: 16 no library entry: the library has no component with this package and part; \
         it is placement 1 (cs13_a pn-cap C1)\n"
     );
     assert_eq!(code, 1);
     let (words, code) = said("judge shelf/boards/plate_letters.emn shelf/libraries/connectors.emp");
+    assert!(words.starts_with("shelf/boards/plate_letters.emn:29: 16 "), "{words}");
     assert!(words.ends_with("; it is placement 1 (screw_m3 pn-m3x8 NOREFDES)\n"), "{words}");
     assert_eq!(code, 1);
     let table = [
@@ -184,15 +124,17 @@ fn a_file_over_the_limit_is_answered_without_being_read_whole() {
 
 #[test]
 fn a_reader_that_goes_away_is_no_fault() {
-    let mut child = quay()
-        .args(["rows", "board_dated.emn"])
-        .stdout(Stdio::piped())
-        .stderr(Stdio::piped())
-        .spawn()
-        .expect("the command starts");
-    drop(child.stdout.take());
-    let output = child.wait_with_output().expect("it ends");
-    assert_eq!((text(&output.stderr).as_str(), output.status.code()), ("", Some(0)));
+    for line in ["rows board_dated.emn", "diff --limit 0 board_dated.emn panel_dated.emn"] {
+        let mut child = quay()
+            .args(line.split(' '))
+            .stdout(Stdio::piped())
+            .stderr(Stdio::piped())
+            .spawn()
+            .expect("the command starts");
+        drop(child.stdout.take());
+        let output = child.wait_with_output().expect("it ends");
+        assert_eq!((text(&output.stderr).as_str(), output.status.code()), ("", Some(0)), "{line}");
+    }
 }
 
 #[test]

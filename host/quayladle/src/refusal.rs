@@ -33,7 +33,7 @@ pub enum Reason {
     EndsEarly = 13,
     /// The lent text buffer is too short; the count is the bytes needed.
     ShortText = 14,
-    /// Rows and text bytes have the meaning of no acceptable file.
+    /// Rows and text bytes have the meaning of no acceptable file, or the rows' lines do not rise.
     Meaningless = 15,
     /// A placement without its library entry; the count is its number from 1.
     NoEntry = 16,
@@ -120,7 +120,9 @@ impl Reason {
             Reason::Twice => "an earlier component has the same geometry and part",
             Reason::EndsEarly => "more lines are needed",
             Reason::ShortText => "the lent buffer holds fewer bytes than the text has",
-            Reason::Meaningless => "rows and text have the meaning of no acceptable file",
+            Reason::Meaningless => {
+                "rows and text have the meaning of no acceptable file, or line numbers that do not rise"
+            }
             Reason::NoEntry => "the library has no component with this package and part",
             Reason::WrongKind => "a board or panel is judged by a library",
         }

@@ -68,10 +68,11 @@ fn names(kind: i64, column: usize) -> &'static [&'static str] {
 #[cfg(test)]
 mod tests {
     use super::*;
+    use crate::STRIDE;
 
     /// A row of a kind with a text of so many bytes from a place on, in a column.
     fn row(kind: i64, column: usize, start: i64, length: i64) -> Row {
-        let mut row = [0; 10];
+        let mut row = [0; STRIDE];
         row[0] = kind;
         row[column] = start;
         row[column + 1] = length;

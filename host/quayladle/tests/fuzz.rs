@@ -9,8 +9,8 @@ mod common;
 use std::collections::BTreeSet;
 
 use common::{agreed, agreed_on_both, agreed_on_rows};
-use generate::Random;
-use quayladle::{Reply, Row};
+use generate::{lines, Random};
+use quayladle::{Reply, Row, LINE, STRIDE};
 
 const INPUTS: usize = 20_000;
 /// The longest input.
@@ -88,6 +88,7 @@ fn raw_rows() {
     for number in 0..inputs {
         let mut rows = parents[random.below(parents.len())].clone();
         change_rows(&mut random, &mut rows);
+        change_lines(&mut random, &mut rows);
         let reply = agreed_on_rows(format_args!("input {number}: {rows:?}"), &rows.concat(), PANEL);
         seen[reply.number as usize] += 1;
         if reply.number == 0 && known.insert(mark(reply)) {
@@ -104,8 +105,23 @@ fn change_rows(random: &mut Random, rows: &mut Vec<Row>) {
         0 => drop(rows.remove(at)),
         1 => rows.insert(at, rows[other]),
         2 => rows.swap(at, other),
-        3 => rows[at][random.below(10)] = random.any() as i64,
-        _ => rows[at][random.below(10)] += random.pick(&[-1, 1, 10, 100_000, -100_000]),
+        3 => rows[at][random.below(STRIDE)] = random.any() as i64,
+        _ => {
+            let number = &mut rows[at][random.below(STRIDE)];
+            *number = number.wrapping_add(random.pick(&[-1, 1, 10, 100_000, -100_000]));
+        }
+    }
+}
+
+/// Mostly puts lines that rise, so that rows in another order are not all refused for theirs.
+fn change_lines(random: &mut Random, rows: &mut [Row]) {
+    let lines = match random.below(4) {
+        0 => return,
+        1 => lines(random, rows.len()),
+        _ => (1..=rows.len() as i64).collect(),
+    };
+    for (row, line) in rows.iter_mut().zip(lines) {
+        row[LINE] = line;
     }
 }
 

@@ -3,7 +3,8 @@
 mod common;
 
 use common::{agreed, agreed_on_both, agreed_on_rows};
-use generate::{changed, damaged, file, lettered, matched, Random};
+use generate::{changed, damaged, file, lettered, lines, matched, Random};
+use quayladle::{LINE, STRIDE, WIDTH};
 
 const FILES: u64 = 20_000;
 const PAIRS: u64 = 4_000;
@@ -52,6 +53,52 @@ fn changed_rows() {
 }
 
 #[test]
+fn rows_on_other_lines() {
+    let mut seen = [0; 16];
+    for seed in (0..FILES).step_by(2) {
+        let file = file(seed);
+        let mut rows = quayladle::rows(&file).expect("a whole file");
+        let lines = lines(&mut Random::new(seed), rows.len());
+        for (row, &line) in rows.iter_mut().zip(&lines) {
+            row[LINE] = line;
+        }
+        let rise = lines[0] >= 1 && lines.windows(2).all(|pair| pair[0] < pair[1]);
+        let reply = agreed_on_rows(seed, &rows.concat(), &file);
+        assert_eq!(reply.number, if rise { 0 } else { 15 }, "{seed}");
+        seen[reply.number as usize] += 1;
+    }
+    println!("{} lists of rows, replies by number: {seen:?}", FILES / 2);
+    assert!(seen[0] > 1000 && seen[15] > 1000, "{seen:?}");
+}
+
+#[test]
+fn the_line_of_a_row_is_where_its_texts_stand() {
+    let mut texts = 0;
+    for seed in (0..FILES).step_by(2) {
+        let file = file(seed);
+        for row in quayladle::rows(&file).expect("a whole file") {
+            let starts =
+                (1..WIDTH).filter(|&column| quayladle::text(&row, column, &file).is_some());
+            for start in starts.map(|column| row[column] as usize) {
+                let ends = file[..start].iter().filter(|&&byte| byte == b'\n').count();
+                assert_eq!(row[LINE], ends as i64 + 1, "{seed}");
+                texts += 1;
+            }
+        }
+    }
+    assert!(texts > 100_000, "{texts}");
+}
+
+#[test]
+fn canonical_text_has_a_row_on_each_line() {
+    for seed in (0..FILES).step_by(2) {
+        let text = quayladle::canon(&file(seed)).expect("a whole file");
+        let rows = quayladle::rows(&text).expect("canonical text");
+        assert!(rows.iter().map(|row| row[LINE]).eq(1..=rows.len() as i64), "{seed}");
+    }
+}
+
+#[test]
 fn letters_of_words_and_names() {
     for seed in 0..PAIRS {
         let [capitals, small, mixed] = lettered(&mut Random::new(seed), 600);
@@ -93,7 +140,7 @@ fn starts_of_names(rows: &[i64]) -> Vec<usize> {
         131 => &[5],
         _ => &[],
     };
-    let kinds = rows.iter().enumerate().step_by(10);
+    let kinds = rows.iter().enumerate().step_by(STRIDE);
     kinds.flat_map(|(at, &kind)| columns(kind).iter().map(move |column| at + column)).collect()
 }
 
@@ -105,7 +152,7 @@ fn texts_as_they_are_meant_are_those_of_canonical_text() {
         let canonical = quayladle::canon(&file).expect("a whole file");
         let lists = [&file, &canonical].map(|bytes| quayladle::rows(bytes).expect("rows"));
         for (row, other) in lists[0].iter().zip(&lists[1]) {
-            for column in 1..10 {
+            for column in 1..WIDTH {
                 let meant = quayladle::text(row, column, &file);
                 assert_eq!(meant, quayladle::text(other, column, &canonical), "{seed}");
                 if let Some(meant) = meant {

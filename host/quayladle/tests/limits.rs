@@ -1,12 +1,14 @@
 //! Sizes and lent slices at their limits.
 
-use quayladle::{canon, check, judge, read, rows, same, write, Reply, Verdict, LARGEST_FILE};
+use quayladle::{
+    canon, check, judge, read, rows, same, write, Reply, Verdict, LARGEST_FILE, LINE, STRIDE,
+};
 
 const LIBRARY: &[u8] = b".HEADER\nLIBRARY_FILE 3.0 s 2024/05/06.07:08:09 1\n.END_HEADER\n";
-const ROWS: [i64; 30] = [
-    10, 0, 0, 0, 0, 0, 0, 0, 0, 0, // .HEADER
-    11, 2, 300_000, 25, 1, 27, 19, 1, 0, 0, // LIBRARY_FILE
-    19, 0, 0, 0, 0, 0, 0, 0, 0, 0, // .END_HEADER
+const ROWS: [i64; 33] = [
+    10, 0, 0, 0, 0, 0, 0, 0, 0, 0, 1, // .HEADER
+    11, 2, 300_000, 25, 1, 27, 19, 1, 0, 0, 2, // LIBRARY_FILE
+    19, 0, 0, 0, 0, 0, 0, 0, 0, 0, 3, // .END_HEADER
 ];
 
 const fn reply(number: u64, line: u64, count: u64) -> Reply {
@@ -22,7 +24,7 @@ fn padded(size: usize) -> Vec<u8> {
 
 #[test]
 fn a_slice_that_holds_too_few_rows_stays_as_it_was() {
-    for length in [0, 9, 10, 11, 20, 29] {
+    for length in [0, 10, 11, 12, 21, 22, 30, 32] {
         let mut lent = vec![-1; length];
         assert_eq!(read(LIBRARY, &mut lent), reply(2, 0, 3), "{length}");
         assert_eq!(lent, vec![-1; length]);
@@ -31,10 +33,10 @@ fn a_slice_that_holds_too_few_rows_stays_as_it_was() {
 
 #[test]
 fn numbers_behind_the_last_row_stay_as_they_were() {
-    for length in [30, 31, 39, 40, 41] {
+    for length in [33, 34, 43, 44, 45] {
         let mut lent = vec![-1; length];
         assert_eq!(read(LIBRARY, &mut lent), reply(0, 0, 3), "{length}");
-        assert_eq!((&lent[..30], &lent[30..]), (&ROWS[..], &vec![-1; length - 30][..]));
+        assert_eq!((&lent[..33], &lent[33..]), (&ROWS[..], &vec![-1; length - 33][..]));
     }
 }
 
@@ -62,8 +64,8 @@ fn a_buffer_that_is_too_short_stays_as_it_was() {
 #[test]
 fn whole_rows_alone_are_written() {
     let mut lent = [b'?'; 61];
-    let more = [&ROWS[..], &[5; 9]].concat();
-    for length in [0, 9, 10, 11, 29] {
+    let more = [&ROWS[..], &[5; 10]].concat();
+    for length in [0, 10, 11, 12, 22, 30, 32] {
         assert_eq!(write(&ROWS[..length], LIBRARY, &mut lent), reply(15, 0, 0), "{length}");
         assert_eq!(lent, [b'?'; 61]);
     }
@@ -109,18 +111,48 @@ fn a_text_over_the_limit_is_refused() {
     let prop = rows.iter().position(|row| row[0] == 143).expect("its property");
     // The same property again and again: 256 of them are more than the limit, 255 are not.
     for (times, number) in [(255, 14), (256, 1)] {
-        let list = [&rows[..prop], &vec![rows[prop]; times], &rows[prop + 1..]].concat().concat();
-        assert_eq!(write(&list, &file, &mut []).number, number, "{times}");
+        let mut list = [&rows[..prop], &vec![rows[prop]; times], &rows[prop + 1..]].concat();
+        assert_eq!(write(&list.concat(), &file, &mut []).number, 15, "on one line");
+        for (row, line) in list.iter_mut().zip(1..) {
+            row[LINE] = line;
+        }
+        assert_eq!(write(&list.concat(), &file, &mut []).number, number, "{times}");
     }
+}
+
+#[test]
+fn lines_rise_from_1_or_more_to_any_number() {
+    let edges = [i64::MIN, i64::MIN + 1, -1, 0, 1, 2, 3, 1 << 32, i64::MAX - 1, i64::MAX];
+    for lines in edges.map(|a| edges.map(|b| edges.map(|c| [a, b, c]))).concat().concat() {
+        let mut list = ROWS;
+        for (row, line) in lines.into_iter().enumerate() {
+            list[row * STRIDE + LINE] = line;
+        }
+        let rise = 1 <= lines[0] && lines[0] < lines[1] && lines[1] < lines[2];
+        let mut lent = [b'?'; 61];
+        let answer = if rise { reply(0, 0, 61) } else { reply(15, 0, 0) };
+        assert_eq!(write(&list, LIBRARY, &mut lent), answer, "{lines:?}");
+        assert_eq!(lent, if rise { LIBRARY } else { &[b'?'; 61] }, "{lines:?}");
+    }
+}
+
+#[test]
+fn lines_are_counted_in_a_file_of_the_largest_size() {
+    let before = LARGEST_FILE - LIBRARY.len();
+    let file = [&vec![b'\n'; before], LIBRARY].concat();
+    let list = rows(&file).expect("a library");
+    let lines = [1, 2, 3].map(|line| before as i64 + line);
+    assert_eq!(list.iter().map(|row| row[LINE]).collect::<Vec<_>>(), lines);
+    assert_eq!(canon(&file).as_deref(), Ok(LIBRARY));
 }
 
 #[test]
 fn a_larger_file_is_refused() {
     let file = padded(LARGEST_FILE + 1);
-    let mut lent = [-1; 40];
+    let mut lent = [-1; 44];
     assert_eq!(check(&file), reply(1, 0, 0));
     assert_eq!(read(&file, &mut lent), reply(1, 0, 0));
-    assert_eq!(lent, [-1; 40]);
+    assert_eq!(lent, [-1; 44]);
     assert_eq!(same(LIBRARY, &file), Verdict { reply: reply(1, 0, 0), which: 2 });
     assert_eq!(judge(&file, LIBRARY), Verdict { reply: reply(1, 0, 0), which: 1 });
 }

@@ -1,6 +1,6 @@
 //! Components so many, or with names so long, that the tables of the proved library do not hold them.
 
-use quayladle::{check, judge, rows, write, Reply, Verdict};
+use quayladle::{check, judge, rows, write, Reply, Verdict, STRIDE};
 
 const LIBRARY: &str = ".HEADER\nLIBRARY_FILE 3.0 s 2024/05/06.07:08:09 1\n.END_HEADER\n";
 /// The lines of a library's header, and of a component.
@@ -65,7 +65,7 @@ fn of_many_components_one_that_comes_again_is_not_written() {
     let mut list = rows(&file).expect("a library").concat();
     // Their text is over the size limit, which is asked after the names.
     assert_eq!(write(&list, &file, &mut []), reply(1, 0, 0));
-    let names = |component| (line_of(component) as usize - 1) * 10 + 1;
+    let names = |component| (line_of(component) as usize - 1) * STRIDE + 1;
     list.copy_within(names(0)..names(0) + 4, names(MANY - 1));
     assert_eq!(write(&list, &file, &mut []), reply(15, 0, 0));
 }

@@ -6,6 +6,7 @@ use std::path::PathBuf;
 
 use common::{agreed, agreed_on_both, agreed_on_rows};
 use generate::windows_copy;
+use quayladle::LINE;
 
 /// The samples and the number that the notes beside them list for each.
 const SAMPLES: [(&str, u64); 10] = [
@@ -65,4 +66,21 @@ fn every_number_of_the_rows_of_a_sample_changed() {
             agreed_on_rows(format_args!("number {place} changed by {change}"), &changed, &file);
         }
     }
+}
+
+#[test]
+fn every_line_of_the_rows_of_a_sample_changed() {
+    let file = sample("board_dated.emn");
+    let rows = quayladle::rows(&file).expect("an accepted file");
+    let mut seen = [0; 16];
+    for place in 0..rows.len() {
+        let (before, line) = (rows[place.saturating_sub(1)][LINE], rows[place][LINE]);
+        for other in [0, -1, 1, i64::MIN, i64::MAX, -line, before, before + 1, line + 1] {
+            let mut changed = rows.clone();
+            changed[place][LINE] = other;
+            let name = format_args!("line {line} changed to {other}");
+            seen[agreed_on_rows(name, &changed.concat(), &file).number as usize] += 1;
+        }
+    }
+    assert!(seen[0] > 0 && seen[15] > 0, "{seen:?}");
 }

@@ -6,7 +6,7 @@ use std::os::unix::process::ExitStatusExt;
 use std::process::{Command, ExitStatus};
 use std::thread;
 
-use quayladle::{check, judge, read, same, write, Reader, Reply, Verdict};
+use quayladle::{check, judge, read, same, write, Reader, Reply, Verdict, STRIDE};
 
 /// What an idle thread has, its thread-local storage with it: the least that a thread is started with.
 const IDLE: usize = 16 << 10;
@@ -92,7 +92,7 @@ fn a_board_is_read_written_and_compared_on_the_stack_that_is_asked_for() {
     let board = board();
     assert!(board.len() > 1 << 20);
     let count = OTHER_LINES + 2 * PLACEMENTS;
-    let mut rows = vec![0; 10 * count as usize];
+    let mut rows = vec![0; STRIDE * count as usize];
     assert_eq!(within(STACK, || read(&board, &mut rows)), done(count));
     let mut text = vec![0; board.len()];
     assert_eq!(within(STACK, || write(&rows, &board, &mut text)), done(board.len() as u64));

@@ -1,35 +1,39 @@
-//! Rows as a claim: whether rows over lent bytes have the meaning of some acceptable file.
+//! Rows as a claim: whether rows over lent bytes have the meaning of some acceptable file, and lines
+//! that rise.
 
 use crate::bytes::permitted;
 use crate::kinds::{Kind, Type};
 use crate::numbers::{is_date, LARGEST_INTEGER, LARGEST_NUMBER, VERSION};
 use crate::reading::names_board;
-use crate::rows::{range, Row, Used};
+use crate::rows::{range, Row, Used, LINE, WIDTH};
 use crate::state::State;
 
-/// Whether rows over bytes are those of an acceptable file, size aside.
+/// Whether rows over bytes mean an acceptable file, size aside, and their lines rise from 1 or more.
 pub fn acceptable<'r>(rows: impl Iterator<Item = &'r Row>, bytes: &[u8]) -> bool {
     let texts = Texts::over(bytes);
     let mut state = State::new();
     let mut used = Used::default();
+    let mut last_line = 0;
     for row in rows {
         let Some(kind) = Kind::of_number(row[0]) else {
             return false;
         };
-        let good = fits(kind, row, &texts, &state)
+        let good = row[LINE] > last_line
+            && fits(kind, row, &texts, &state)
             && state.may_stand(kind)
             && state.take(kind, row).is_ok()
             && used.admits(row, bytes);
         if !good {
             return false;
         }
+        last_line = row[LINE];
     }
     state.complete()
 }
 
-/// Whether every column of a row is one that its kind allows.
+/// Whether every column of a row's record is one that its kind allows.
 fn fits(kind: Kind, row: &Row, texts: &Texts, state: &State) -> bool {
-    let mut rest = &row[1..];
+    let mut rest = &row[1..WIDTH];
     for &wanted in kind.layout() {
         let (columns, after) = rest.split_at(wanted.columns());
         if !allows(wanted, columns, texts, state) {

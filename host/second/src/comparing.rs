@@ -20,7 +20,7 @@ pub fn same(a: &[u8], b: &[u8]) -> (Reply, u64) {
     (Reply::done(u64::from(equal)), 0)
 }
 
-/// Whether two rows agree, with what each text means in place of its start and length.
+/// Whether the records of two rows agree, with what each text means in place of its start and length.
 fn mean_the_same((p, a): (&Row, &[u8]), (q, b): (&Row, &[u8])) -> bool {
     if p[0] != q[0] {
         return false;

@@ -31,5 +31,6 @@ pub use comparing::same;
 pub use judging::judge;
 pub use reading::{check, read, rows};
 pub use reply::Reply;
+pub use rows::{Row, LINE, STRIDE, WIDTH};
 pub use viewer::Reader;
 pub use writing::{canon, write};

@@ -5,7 +5,7 @@ use crate::fields::{Field, Split};
 use crate::kinds::{Kind, Type, BOARD_NAME, PROP};
 use crate::numbers::{integer, is_date, number, VERSION};
 use crate::reply::{Fault, Reply};
-use crate::rows::{Row, Used, WIDTH};
+use crate::rows::{Row, Used, LINE, STRIDE};
 use crate::state::State;
 
 /// Checks a file; the count is its rows.
@@ -20,10 +20,10 @@ pub fn read(file: &[u8], rows: &mut [i64]) -> Reply {
         Err(reply) => return reply,
     };
     let count = list.len() as u64;
-    if rows.len() / WIDTH < list.len() {
+    if rows.len() / STRIDE < list.len() {
         return Reply::few_rows(count);
     }
-    for (lent, row) in rows.chunks_exact_mut(WIDTH).zip(&list) {
+    for (lent, row) in rows.chunks_exact_mut(STRIDE).zip(&list) {
         lent.copy_from_slice(row);
     }
     Reply::done(count)
@@ -78,8 +78,9 @@ fn turn(line: Line, state: &mut State) -> Result<Option<Row>, Fault> {
     let kind = kind_of(split.first(), state).ok_or(Fault::Place)?;
     let layout = kind.layout();
     let fields = split.exactly(usize::from(kind.lead().is_some()), layout.len())?;
-    let mut row = [0; WIDTH];
+    let mut row = [0; STRIDE];
     row[0] = kind.number();
+    row[LINE] = line.number as i64;
     let mut column = 1;
     for (&wanted, field) in layout.iter().zip(fields) {
         fill(wanted, field, state, &mut row[column..])?;

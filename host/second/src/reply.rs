@@ -14,7 +14,7 @@ pub struct Reply {
 impl Reply {
     /// The file, or the text to be written, is over the size limit.
     pub(crate) const OVERSIZE: Reply = Reply::counted(1, 0);
-    /// Rows and text bytes have the meaning of no acceptable file.
+    /// Rows and text bytes have the meaning of no acceptable file, or the rows' lines do not rise.
     pub(crate) const MEANINGLESS: Reply = Reply::counted(15, 0);
     /// Judging was given the wrong kind of file.
     pub(crate) const WRONG_KIND: Reply = Reply::counted(17, 0);

@@ -1,13 +1,19 @@
-//! Rows: the ten numbers that a line gives, the texts they point at, and the pairs that name parts.
+//! Rows: the numbers that a line gives, the texts they point at, and the pairs that name parts.
 
 use std::collections::HashSet;
 use std::ops::Range;
 
-/// How many numbers make a row.
+/// How many numbers make a record: the kind, then the columns of its fields.
 pub const WIDTH: usize = 10;
 
-/// One row: the kind, then the columns of its fields.
-pub type Row = [i64; WIDTH];
+/// Where in a row the line stands that the record came from, counted from 1.
+pub const LINE: usize = WIDTH;
+
+/// How many numbers of a slice a row takes: its record's and its line's.
+pub const STRIDE: usize = WIDTH + 1;
+
+/// One row: a record and its line.
+pub type Row = [i64; STRIDE];
 
 /// The kind of a placement's first line: package, part and reference.
 pub const PACKAGE_LINE: i64 = 131;

@@ -6,11 +6,11 @@ use crate::kinds::{Kind, Type};
 use crate::numbers::{push_integer, push_number};
 use crate::reading;
 use crate::reply::Reply;
-use crate::rows::{text, Row, WIDTH};
+use crate::rows::{text, Row, STRIDE};
 
 /// Writes the canonical text of every whole row; `out` stays untouched unless the reply is 0.
 pub fn write(rows: &[i64], text: &[u8], out: &mut [u8]) -> Reply {
-    let rows = || rows.chunks_exact(WIDTH).filter_map(|row| <&Row>::try_from(row).ok());
+    let rows = || rows.chunks_exact(STRIDE).filter_map(|row| <&Row>::try_from(row).ok());
     if !acceptable(rows(), text) {
         return Reply::MEANINGLESS;
     }

@@ -2,10 +2,10 @@
 
 use std::io::{self, Write};
 
-use quayladle::{Reply, Verdict};
 use serde_json::{json, Value};
 
 use super::{Filed, Group, Shelf};
+use crate::json::{reply_value, verdict_value};
 
 pub fn print(shelf: &Shelf, out: &mut impl Write) -> io::Result<()> {
     serde_json::to_writer_pretty(&mut *out, &value(shelf))?;
@@ -58,12 +58,4 @@ fn group_value(shelf: &Shelf, group: &Group) -> Value {
         "others": others.collect::<Vec<Value>>(),
         "bytes_freed": shelf.freed_by(group),
     })
-}
-
-fn reply_value(Reply { number, line, count }: Reply) -> Value {
-    json!({ "number": number, "line": line, "count": count })
-}
-
-fn verdict_value(Verdict { reply: Reply { number, line, count }, which }: Verdict) -> Value {
-    json!({ "number": number, "line": line, "count": count, "which": which })
 }

@@ -2,7 +2,7 @@
 
 use std::fmt::Display;
 
-use quayladle::{canon, check, judge, read, same, write, Reader, Reply, Verdict};
+use quayladle::{canon, check, judge, read, same, write, Reader, Reply, Verdict, STRIDE};
 
 /// What lent numbers are filled with, to see that nothing else is written.
 pub const MARK: i64 = -0x5A5A_5A5A;
@@ -20,8 +20,8 @@ pub fn verdict((answer, which): (second::Reply, u64)) -> Verdict {
 pub fn agreed(name: impl Display, file: &[u8]) -> Reply {
     let answer = check(file);
     assert_eq!(answer, reply(second::check(file)), "{name}: check");
-    let needed = 10 * answer.count as usize;
-    for room in [needed + 7, needed.saturating_sub(1)] {
+    let needed = STRIDE * answer.count as usize;
+    for room in [needed + STRIDE - 1, needed.saturating_sub(1)] {
         let (mut lent, mut other) = (vec![MARK; room], vec![MARK; room]);
         let answers = (read(file, &mut lent), reply(second::read(file, &mut other)));
         assert_eq!(answers.0, answers.1, "{name}: read into {room}");

@@ -1,7 +1,7 @@
 //! The columns of a case of cases.txt, for every test that runs them.
 
-/// A row of ten numbers.
-type Row = [i64; 10];
+/// A row: the ten numbers of a record, and its line.
+type Row = [i64; 11];
 
 /// The bytes that an escaped column stands for.
 pub fn bytes(column: &str) -> Vec<u8> {

@@ -1,10 +1,10 @@
 -- `read::lent::put_turn` meets its contract. Assumes nothing.
 use borrow.Author.Needs.{needs}
-use Rattle.read.proofs.RowLaws.{place-room, place-fits, behind-row, placed-row, behind-none, placed-none}
+use Rattle.read.proofs.RowLaws.{place-room, place-line, place-fits, behind-row, placed-row, behind-none, placed-none}
 use Rattle.read.proofs.lent.put_turn.Statement.{statement}
 use Rattle.read.proofs.lent.put_turn.Tie as tie
 
-ruleset laws = (place-room, place-fits, behind-row, placed-row, behind-none, placed-none, needs)
+ruleset laws = (place-room, place-line, place-fits, behind-row, placed-row, behind-none, placed-none, needs)
 
 is-row-requires : tie.Need-is-row-requires
 is-row-requires c κs = search laws
