@@ -101,9 +101,9 @@ fn steps(records: &[Records; 2], verdict: Verdict, time: Duration) -> Steps {
     }
 }
 
-/// How long matching may take: a second on small files, and on large ones little beside comparing and reading them.
+/// How long matching may take: half a second on small files, and on large ones little beside comparing and reading them.
 fn time(files: &[Vec<u8>; 2], reading: Duration) -> Duration {
     let mebibytes = files.iter().map(Vec::len).sum::<usize>() >> 20;
-    let least = Duration::from_secs(1) / (1 + mebibytes as u32);
-    least.max(reading / 10)
+    let least = Duration::from_millis(500) / (1 + mebibytes as u32);
+    least.max(reading / 20)
 }
