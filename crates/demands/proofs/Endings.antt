@@ -14,7 +14,7 @@ use Rattle.text.proofs.LineSpelling.{lines-sound, lines-unique}
 use Rattle.text.proofs.Copies.{file-copied, copy-longer}
 use Rattle.law.specs.Values.{Rec}
 use Rattle.law.specs.declared.Rules.the-variants.{Idf3}
-use Rattle.law.specs.Rows.{stride, RowsMean}
+use Rattle.law.specs.Rows.{stride, RowsMean, linesIn}
 use Rattle.law.specs.RowPlaces.{startAfter}
 use Rattle.law.specs.Answers.{limit, verdict, reply}
 use Rattle.law.specs.declared.Reply.{Reply}
@@ -22,7 +22,9 @@ use Rattle.law.specs.declared.Verdict.{Verdict}
 use Rattle.law.specs.Files.{LinesSay, FileSays, Continues}
 use Rattle.law.specs.Given.{Answered, accepted, too-large, refused, too-early}
 use Rattle.shown_places.proofs.Continued.{fails-bytes}
+use Rattle.shown_places.proofs.LineNumbers.{lines-same}
 use Rattle.demands.specs.Outcomes.{Checks, Reads, Compares}
+use Rattle.demands.proofs.Starts.{starts}
 use Rattle.demands.proofs.Demands.{every-file, records, accepted-iff, one-list, first-line, same-iff}
 
 -- The Windows copy
@@ -58,6 +60,11 @@ module _ {file : List ℕ} where
   pub windows-rows : {rs : List Rec} {old new : List ℤ} {q : Reply} → FileSays Idf3 rs file → Reads (windows file) old q new → q .number ≡ 0
       → (q ≡ reply 0 0 (length rs)) × RowsMean (windows file) rs (take (stride * length rs) new)
   windows-rows s o z = let w = records o z in rw (one-list (windows-says .0 s) (w .1)) (w .2, w .3)
+
+  -- and each has the line that the file's own row has
+  pub windows-lines : {rs : List Rec} {old new lent left : List ℤ} {r q : Reply} → FileSays Idf3 rs file → Reads file old r new → r .number ≡ 0
+      → Reads (windows file) lent q left → q .number ≡ 0 → linesIn (length rs) (take (stride * length rs) left) ≡ linesIn (length rs) (take (stride * length rs) new)
+  windows-lines s o z p w = lines-same (starts p w (file-copied (s .made)) (windows-says .0 s)) (starts o z (s .made) s)
 
 -- Demand 3 over bytes
 

@@ -1,6 +1,6 @@
--- The lines of rows, by the lines that spell their records: they rise, and where no line is free they are counted.
+-- The lines of rows, by the lines that spell their records: they rise, where no line is free they are counted, and nothing else decides them.
 use Prim.Native.Nat.{ℕ, suc, _≤_, _<_}
-use mathlib.Core.Path.{_≡_, refl, ap}
+use mathlib.Core.Path.{_≡_, refl, sym, ap, _∙_}
 use mathlib.Core.List.{List, [], _∷_, _++_, append-assoc}
 use native.Mathlib.Omega.{arith}
 use borrow.Author.Tests.{lt-ltb}
@@ -9,6 +9,7 @@ use lib.ListN.{length, drop, getD, length-append}
 use lib.Seq.{drop-at, getD-at}
 use Rattle.law.specs.Values.{Rec}
 use Rattle.law.specs.declared.Context.{Context}
+use Rattle.shown_spelling.proofs.FileSpelling.{record-not-free}
 use Rattle.law.specs.Rows as column
 use Rattle.law.specs.Rows.{width, stride, withLine, linesIn, Rises}
 use Rattle.law.specs.RowPlaces.{RowsAt, end, free, line, upFrom}
@@ -41,3 +42,13 @@ module _ {c : Context} {file : List ℕ} where
   lines-counted end e = refl
   lines-counted (free f p) e = absurd (omega (arith, few p, e))
   lines-counted (line {n = n} {rs = rs} {x = x} {xs = xs} f o p) e = rw (lines-more (length rs) x (pos n) xs (o .ten)) (ap (λ (k : List ℤ). pos n ∷ k) (lines-counted p (omega (arith, e))))
+
+-- they depend on the lines alone, and not on where these stand
+pub lines-same : {c d : Context} {f g : List ℕ} {a b n : ℕ} {ls : List (List ℕ)} {rs : List Rec} {xs ys : List ℤ} → RowsAt c f a n ls rs xs → RowsAt d g b n ls rs ys
+    → linesIn (length rs) xs ≡ linesIn (length rs) ys
+lines-same end end = refl
+lines-same (free h p) (free i q) = lines-same p q
+lines-same (free h p) (line i o q) = absurd (record-not-free i h)
+lines-same (line h o p) (free i q) = absurd (record-not-free h i)
+lines-same (line {n = n} {rs = rs} {x = x} {xs = xs} h o p) (line {x = y} {xs = ys} i w q) =
+    lines-more (length rs) x (pos n) xs (o .ten) ∙ ap (λ (k : List ℤ). pos n ∷ k) (lines-same p q) ∙ sym (lines-more (length rs) y (pos n) ys (w .ten))
