@@ -241,7 +241,7 @@ title-held =
 pub any-line : (n : ℤ) → RowsMean three-lines (record { kind = 11; values = word 2 ∷ count 300_000 ∷ said "s" ∷ said "2024/05/06.07:08:09" ∷ count 1 ∷ [] } ∷ []) (withLine title-row n ++ [])
 any-line n = rows.row n title-held rows.none
 
--- lines: from 1 on, with gaps; not from 0, not twice the same, not falling
+-- lines: from 1 on, with gaps; not from 0 or below, not twice the same, not falling
 pub from-one : Rises (pos 0) (pos 1 ∷ pos 2 ∷ pos 7 ∷ [])
 from-one = rows.next refl (rows.next refl (rows.next refl rows.none))
 
@@ -253,6 +253,9 @@ not-below-zero (rows.next h r) = false≢true h
 
 pub not-the-same : Rises (pos 0) (pos 2 ∷ pos 2 ∷ []) → ⊥
 not-the-same (rows.next g (rows.next h r)) = false≢true h
+
+pub not-falling : Rises (pos 0) (pos 3 ∷ pos 2 ∷ []) → ⊥
+not-falling (rows.next g (rows.next h r)) = false≢true h
 
 -- judging: R1 is served by an electrical entry, NOREFDES by a mechanical one and by no other
 

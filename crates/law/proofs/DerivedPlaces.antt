@@ -73,8 +73,8 @@ its-row b =
       ten = refl;
     }
 
--- three such lines: the second begins at 10, behind the bytes 13 and 10 of the first, and the third at 19, behind the byte 10 of the second and the
--- empty line 3
+-- three such lines: the second begins at 10, behind the bytes 13 and 10 of the first, and the third at 20, behind the byte 10 of the second and
+-- that of the empty line 3
 abbrev thrice : List ℕ
 thrice = property ++ (13 ∷ 10 ∷ (property ++ (10 ∷ 10 ∷ (property ++ (10 ∷ [])))))
 

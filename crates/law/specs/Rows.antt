@@ -1,6 +1,7 @@
 -- "Each keyword or data line gives one row of ten signed 64-bit numbers: the kind, then its fields in order. A word is its place from 0; a
 -- text is two numbers, its start and length in the file, quotes left off; number and integer are themselves. Unused columns are 0."
--- W-205: "Each row gains an eleventh number, the line it came from, from 1. Meaning ignores it. The writer checks it."
+-- W-205: "Each row gains an eleventh number, the line it came from, from 1. The slice now holds length/11 rows. Meaning and sameness ignore the
+-- new number […] The writer checks it: the numbers must rise strictly from row to row, starting at 1 or more."
 use Prim.Native.Nat.{ℕ, zero, suc, _+_, _*_, _/_, _≤_}
 use mathlib.Core.List.{List, [], _∷_, _++_}
 use mathlib.Core.Path.{_≡_}

@@ -24,7 +24,7 @@ use Rattle.law.specs.Answers.{limit, reply, over}
 use Rattle.walk.specs.Walks.{begun, turnOf, isRow, stopsBy, Steady, Trace, row, traceBy, traceAt}
 use Rattle.read.specs.Replies.{checkReply, rowsIn, rowsOf, placedAt, placeBehind, RowRoom, readReply, readRows}
 use Rattle.walk.proofs.WalkLaws.{Going, going-start, going-trace, going-less, going-more, going-end}
-use Rattle.read.proofs.RowWidths.{turn-wide, check-counts}
+use Rattle.read.proofs.RowWidths.{turn-wide, lined-wide, check-counts}
 
 -- a row put number by number, its line last
 pub record Putting (old : List ℤ) (at : ℕ) (x : List ℤ) (line : ℕ) (rows : List ℤ) (i : ℕ) : Type 0 where
@@ -40,14 +40,11 @@ module _ (old x rows : List ℤ) (at line i : ℕ) (p : Putting old at x line ro
   put-length = p .long
 
   module _ (w : length x ≡ width) (r : at + stride ≤ length old) where
-    n : length (withLine x (pos line)) ≡ stride
-    n = omega (arith, length-append x (pos line ∷ []), w)
-
     -- one number more
     put-next : (z : ℤ) → i < stride → z ≡ getD (withLine x (pos line)) i (pos 0) → set rows (at + i) z ≡ paste old at (withLine x (pos line)) (i + 1)
     put-next z h e =
         let d : at + i < length old = omega arith in
-        let l : i < length (withLine x (pos line)) = omega (arith, n) in
+        let l : i < length (withLine x (pos line)) = omega (arith, lined-wide x (pos line) w) in
         rw (e, p .is) (paste-suc old at (withLine x (pos line)) i (pos 0) d l) ∙ ap (paste old at (withLine x (pos line))) (sym (add-one i))
 
     pub put-more : i < width → SFits w64 (getD x i (pos 0)) → Putting old at x line (set rows (at + i) (back (getD x i (pos 0)))) (i + 1)
@@ -159,7 +156,7 @@ module _ (file : List ℕ) (old rows : List ℤ) (w : Walk) (at n : ℕ) (s : Pl
     its = withLine (t .row) (pos (w .line))
 
     wide : length its ≡ stride
-    wide = let n : length (t .row) ≡ width = rw e (turn-wide file w) in omega (arith, length-append (t .row) (pos (w .line) ∷ []), n)
+    wide = lined-wide (t .row) (pos (w .line)) (rw e (turn-wide file w))
 
     row-left : isRow (t .found) ≡ true → rowsIn (traceAt file w) ≡ its ++ rowsIn (traceAt file (t .walk))
     row-left i = left ∙ rows-row (w .line) (t .row) (traceAt file (t .walk)) (t .found) i

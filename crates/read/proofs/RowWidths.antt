@@ -1,4 +1,4 @@
--- Every row has its width and no refusal the number 0, so as many numbers are written as rows are counted.
+-- Every row has its width, with its line the stride, and no refusal the number 0, so as many numbers are written as rows are counted.
 use Prim.Native.Nat.{ℕ, zero, suc, _+_, _-_, _*_}
 use mathlib.Core.Path.{_≡_, refl, _∙_}
 use mathlib.Core.List.{List, [], _∷_}
@@ -95,6 +95,10 @@ pub turn-wide : (file : List ℕ) (w : Walk) → length (turnOf file w .row) ≡
 unfolding Wide turnOf lineIn
 turn-wide file w = wide-judged Idf3 (w .state) (w .at) _
 
+-- and with its line the stride
+pub lined-wide : (x : List ℤ) (n : ℤ) → length x ≡ width → length (withLine x n) ≡ stride
+lined-wide x n h = omega (arith, length-append x (n ∷ []), h)
+
 -- no refusal has the number 0
 
 Told : JudgedLine → Type 0
@@ -155,7 +159,7 @@ rows-long (suc n) file r w h = go (ltb (w .at) (length file)) (λ q. rows-long n
     t = turnOf file w
 
     found : (f : Found) → t .found ≡ f → ((q : Reply) → Long q (traceIn n file (t .walk))) → Long r (traceBy f (w .line) (t .row) (traceIn n file (t .walk)))
-    found Row e ih h = let k = ih (reply 0 0 (r .count + 1)) h in omega (arith, length-append (withLine (t .row) (pos (w .line))) (rowsIn (traceIn n file (t .walk))), length-append (t .row) (pos (w .line) ∷ []), turn-wide file w)
+    found Row e ih h = let k = ih (reply 0 0 (r .count + 1)) h in omega (arith, length-append (withLine (t .row) (pos (w .line))) (rowsIn (traceIn n file (t .walk))), lined-wide (t .row) (pos (w .line)) (turn-wide file w))
     found Nothing e ih h = ih r h
     found (Refused m) e ih h = absurd (turn-told file w m e h)
 

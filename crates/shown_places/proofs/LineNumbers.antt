@@ -5,10 +5,11 @@ use mathlib.Core.List.{List, [], _∷_, _++_, append-assoc}
 use native.Mathlib.Omega.{arith}
 use borrow.Author.Tests.{lt-ltb}
 use lib.IntN.{ℤ, pos}
-use lib.ListN.{length, drop, getD, length-append}
+use lib.ListN.{length, drop, getD}
 use lib.Seq.{drop-at, getD-at}
 use Rattle.law.specs.Values.{Rec}
 use Rattle.law.specs.declared.Context.{Context}
+use Rattle.read.proofs.RowWidths.{lined-wide}
 use Rattle.shown_spelling.proofs.FileSpelling.{record-not-free}
 use Rattle.law.specs.Rows as column
 use Rattle.law.specs.Rows.{width, stride, withLine, linesIn, Rises}
@@ -18,9 +19,8 @@ use Rattle.law.specs.RowPlaces.{RowsAt, end, free, line, upFrom}
 lines-more : (k : ℕ) (x : List ℤ) (n : ℤ) (xs : List ℤ) → length x ≡ width → linesIn (suc k) (withLine x n ++ xs) ≡ n ∷ linesIn k xs
 unfolding linesIn
 lines-more k x n xs w =
-    let e : length (withLine x n) ≡ stride = omega (arith, length-append x (n ∷ []), w) in
     let g : getD (withLine x n ++ xs) width (pos 0) ≡ n = rw (append-assoc x (n ∷ []) xs) (getD-at x n xs (pos 0) width w) in
-    rw (g, drop-at (withLine x n) xs stride e)
+    rw (g, drop-at (withLine x n) xs stride (lined-wide x n w))
 
 module _ {c : Context} {file : List ℕ} where
   -- each is above those before it

@@ -13,6 +13,7 @@ use Rattle.text.proofs.LineSpelling.{end-bytes, end-some}
 use Rattle.law.specs.Values.{Rec}
 use Rattle.law.specs.declared.Context.{Context}
 use Rattle.law.specs.Rows.{withLine}
+use Rattle.read.proofs.RowWidths.{lined-wide}
 use Rattle.law.specs.RowPlaces.{RowsAt, free, line, startAfter, LineRow}
 use Rattle.shown_places.proofs.ReaderPlaces.{none-long}
 
@@ -85,7 +86,7 @@ line-row (u ∷ us) l ms h (line {n = n} {r = q} {x = y} f o p) =
       below = w .below;
       records = ap (λ (k : List Rec). q ∷ k) (w .records);
       rows = ap (λ (k : List ℤ). v ++ k) (w .rows) ∙ sym (append-assoc v (w .above) (withLine (w .row) (pos (n + length (u ∷ us))) ++ w .below));
-      as-many = omega (arith, w .as-many, o .ten, length-append v (w .above), length-append y (pos n ∷ []));
+      as-many = omega (arith, w .as-many, length-append v (w .above), lined-wide y (pos n) (o .ten));
       spells = w .spells;
       is = w .is;
     }

@@ -19,6 +19,7 @@ use Rattle.order.specs.Automaton.{start, repeats, noted}
 use Rattle.order.specs.declared.State.{State}
 use Rattle.walk.specs.Walks.{Trace}
 use Rattle.read.specs.Replies.{rowsIn, rowsOf}
+use Rattle.read.proofs.RowWidths.{lined-wide}
 use Rattle.shown_told.specs.Told.{says, wrong, Told, ended, broken, afterNothing, afterRecord, goOn, toldFrom}
 use Rattle.law.specs.Rows as rows
 use Rattle.shown_read.proofs.LineUsed.{line-used}
@@ -58,10 +59,6 @@ module _ (file : List ℕ) where
 -- each row has its width
 pub row-wide : {file : List ℕ} {k : ℕ} {ts : List FieldType} {x : List ℤ} {vs : List Value} → Holds file k ts x vs → length x ≡ width
 row-wide h = rw (h .is) (omega (arith, h .ten, length-append (h .columns) (replicate (h .left) (pos 0)), length-replicate (h .left) (pos 0)))
-
--- and with its line the stride
-pub lined-wide : (x : List ℤ) (n : ℤ) → length x ≡ width → length (withLine x n) ≡ stride
-lined-wide x n h = omega (arith, length-append x (n ∷ []), h)
 
 pub rows-long : {file : List ℕ} {rs : List Rec} {xs : List ℤ} → RowsMean file rs xs → length xs ≡ stride * length rs
 rows-long rows.none = refl

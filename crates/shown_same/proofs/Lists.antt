@@ -13,12 +13,13 @@ use Rattle.order.specs.declared.State.{State}
 use Rattle.walk.specs.Walks as walk
 use Rattle.walk.specs.Walks.{Trace}
 use Rattle.read.specs.Replies.{rowsIn}
+use Rattle.read.proofs.RowWidths.{lined-wide}
 use Rattle.law.specs.Rows as rows
 use Rattle.law.specs.Files.{FileSays}
 use Rattle.shown_read.proofs.Traced as line
 use Rattle.shown_read.proofs.Traced.{Follows, trace-follows}
 use Rattle.shown_read.proofs.Checked.{check-rows}
-use Rattle.shown_read.proofs.RowsTold.{row-wide, lined-wide, record-same, behind-same}
+use Rattle.shown_read.proofs.RowsTold.{row-wide, record-same, behind-same}
 use Rattle.same.specs.Ignoring.{nothing}
 use Rattle.same.specs.SameLists.{listIn, listOf, sameLists, sameFiles}
 use Rattle.shown_same.proofs.Values.{sameRecs}

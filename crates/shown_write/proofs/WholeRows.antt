@@ -13,10 +13,11 @@ use Rattle.law.specs.declared.Rules.the-variants.{Idf3}
 use Rattle.law.specs.Rows.{width, stride, capacity, withLine, Holds, RowsMean, whole}
 use Rattle.write_columns.proofs.HeldRecords.{held-is}
 use Rattle.write_lines.specs.LineText.{anywhere, lineText}
+use Rattle.read.proofs.RowWidths.{lined-wide}
 use Rattle.write.specs.WholeRows.{chunks, wholeRows}
 use Rattle.write.specs.Outcomes.{textOf}
 use Rattle.law.specs.Rows as rows
-use Rattle.shown_read.proofs.RowsTold.{row-wide, lined-wide, rows-long, record-same, behind-same}
+use Rattle.shown_read.proofs.RowsTold.{row-wide, rows-long, record-same, behind-same}
 use Rattle.law.specs.Canonical.{canonicalText}
 use Rattle.shown_write.specs.Texts.{ListMeans, none, more, Wide, no-row, a-row}
 
