@@ -78,7 +78,8 @@ pub enum Command {
     /// Whether they differ, and so the exit code, is the answer of the proved comparison, as `quay same` gives it. What is said
     /// of their records is not proved: it is this command's own work over the rows that the proved reader gives.
     ///
-    /// A difference is a field that has another value in the second file, or a record of one file alone.
+    /// A difference is a field that has another value in the second file, or a record of one file alone. Records are matched
+    /// for a limited time: of large files in quite another order the list and its length may differ from run to run.
     Diff {
         /// Print lines for programs
         ///
