@@ -39,6 +39,10 @@ abbrev pub Missed : ℕ → ℕ → ℕ → Type 0
 Missed lo zero n = Unit {0}
 Missed lo (suc m) n = Missed lo m n × (n ≡ lo + m → ⊥)
 
+pub over : (lo m n : ℕ) → lo + m ≤ n → Missed lo m n
+over lo zero n h = tt
+over lo (suc m) n h = (over lo m n (omega arith), λ e. omega arith)
+
 pub below : (lo m n : ℕ) → Missed lo m n → n < lo + m → n < lo
 below lo zero n p h = omega arith
 below lo (suc m) n (p, q) h = below lo m n p (omega arith)

@@ -1,5 +1,7 @@
 // What every floor needs and the kit lacks: integers and bytes compared, letters in capitals. The laws of Bool, List and ℤ stand in
 // proofs/.
+#![tactic(auto)]
+
 ghost use Rattle.std.specs.Prelude.{◌≡◌, eqb};
 ghost use Rattle.law.specs.Words.{capital, same_bytes};
 ghost use Rattle.basics.specs.Integers.{eq_z};

@@ -25,7 +25,7 @@ use Rattle.law.specs.LineFaults.{FaultyAfter}
 use Rattle.shown_read.specs.Outcomes.{reply_of}
 use Rattle.shown_told.proofs.Numbered.{told_faulty, faulty_number, fails_faulty}
 use Rattle.shown_read.proofs.CheckTold.{check_told}
-use Rattle.shown_read.proofs.Checked.{check-accepts, check_count, check_long, check_rows}
+use Rattle.shown_read.proofs.Checked.{check_accepts, check_count, check_long, check_rows}
 use Rattle.shown_read.proofs.ReadSays.{read_puts}
 use Rattle.law.specs.Given.{Fails, Short, Answered, accepted, too_large, refused, too_early}
 
@@ -86,7 +86,7 @@ module _ (file : List ℕ) (room : ℕ) where
   read_list z =
       let w = accepted_room z in
       let h = accepted_small file (check_reply file) refl w.0 in
-      let s = (check-accepts file h).0 w.0 in
+      let s = (check_accepts file h).0 w.0 in
       let c : (check_reply file).count ≡ length s.0 = ap (λ (r : Reply). r.count) (check_count file h s.1) in
       (h, (s.0, s.1, rw (sym c) w.1))
 

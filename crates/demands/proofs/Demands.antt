@@ -27,7 +27,7 @@ use Rattle.law.specs.Fits.{under}
 use Rattle.law.specs.Files.{titled, FileSays}
 use Rattle.shown_told.proofs.WholeFiles as files
 use Rattle.shown_told.proofs.Numbered as faults
-use Rattle.shown_read.proofs.Checked.{check_large, check-accepts, check_count, check_first, check_answers, check_only}
+use Rattle.shown_read.proofs.Checked.{check_large, check_accepts, check_count, check_first, check_answers, check_only}
 use Rattle.shown_read.proofs.RowsTold as told
 use Rattle.shown_read.proofs.ReadSays as reading
 use Rattle.law.specs.Canonical.{canonical_text}
@@ -133,7 +133,7 @@ pub written_read : {file : List ℕ} {rs : List Rec} {old new : List ℤ} {r q :
     → Writes (take (stride * length rs) new) file room q out → length (canonical_text Idf3 rs) ≤ limit → length (canonical_text Idf3 rs) ≤ length room
     → (q ≡ reply 0 0 (length (canonical_text Idf3 rs))) × (out ≡ canonical_text Idf3 rs ++ drop (length (canonical_text Idf3 rs)) room)
 written_read {file} {rs} {old} {new} {room = room} s h o i u l j =
-    let e : take (stride * length rs) new ≡ rows_of file = ap (take (stride * length rs)) o.left ∙ texts.read-front file s h old i in
+    let e : take (stride * length rs) new ≡ rows_of file = ap (take (stride * length rs)) o.left ∙ texts.read_front file s h old i in
     let w = texts.write_read_text file s l room j in
     (u.answer ∙ ap (λ (xs : List ℤ). write_reply xs file (length room)) e ∙ w.0, u.left ∙ ap (λ (xs : List ℤ). write_text xs file room) e ∙ w.1)
 
@@ -156,7 +156,7 @@ read_written {rows} {bytes = bytes} {room = room} s u z o i =
 
 -- "A file within the size limit is accepted exactly when it is a permitted spelling of some permitted list of records"
 pub accepted_iff : {file : List ℕ} {r : Reply} → Checks file r → length file ≤ limit → (r.number ≡ 0) ↔ ((rs : List Rec) × FileSays Idf3 rs file)
-accepted_iff {file} c h = rw c.answer (check-accepts file h)
+accepted_iff {file} c h = rw c.answer (check_accepts file h)
 
 -- over the limit it is 1, and only there
 pub large_iff : {file : List ℕ} {r : Reply} → Checks file r → (r.number ≡ 1) ↔ (limit < length file)
@@ -196,7 +196,7 @@ pub too_early : {file : List ℕ} {ls : List (List ℕ)} {r : Reply} → Checks 
 too_early {file} {ls} {r} c h m = ((λ z. (answered_early m (every_file.0 c) z).0, ends), λ z. (answered_early m (every_file.0 c) z).1)
   where
     ends : Short ls file → r.number ≡ 13
-    ends s = ap number_in (c.answer ∙ sym (every_file.1 (goal.too-early h m s)).answer)
+    ends s = ap number_in (c.answer ∙ sym (every_file.1 (goal.too_early h m s)).answer)
 
 -- "Two accepted files are the same exactly when their lists are equal": 1 where they are, 0 where they are not, and neither is refused
 pub same_iff : {first second : List ℕ} {rs qs : List Rec} {v : Verdict} → Compares first second v → length first ≤ limit → length second ≤ limit

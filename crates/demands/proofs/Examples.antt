@@ -66,7 +66,7 @@ use Rattle.shown_write.proofs.RoundTrip.{file_rows}
 use Rattle.law.specs.Judging.{Judged}
 use Rattle.demands.specs.Outcomes.{Checks}
 use Rattle.law.specs.Given.{Fails, Short}
-use Rattle.demands.proofs.Demands.{accepted_iff, first_line, too_early, same_iff, written_iff, judged as judged-iff}
+use Rattle.demands.proofs.Demands.{accepted_iff, first_line, too_early, same_iff, written_iff, judged as judged_iff}
 use Rattle.demands.proofs.WriteAnswers.{written_zero}
 
 -- lines, each with the byte 10 that ends it
@@ -242,6 +242,6 @@ nothing_said rs s = (unwritable_iff [] library 60).0 (ap (λ (r : Reply). r.numb
 -- a board that is served, and one that lacks an entry
 pub board_judged : Judged board_says.0 entry_says.0 (verdict 0 0 1 0) × Judged board_says.0 library_says.0 (verdict 16 0 1 1)
 board_judged = (
-  (judged-iff (omega arith) (omega arith) board_says.1 entry_says.1).0 (record { answer = sym answers.12 }),
-  (judged-iff (omega arith) (omega arith) board_says.1 library_says.1).0 (record { answer = sym answers.13 }),
+  (judged_iff (omega arith) (omega arith) board_says.1 entry_says.1).0 (record { answer = sym answers.12 }),
+  (judged_iff (omega arith) (omega arith) board_says.1 library_says.1).0 (record { answer = sym answers.13 }),
 )

@@ -24,7 +24,7 @@ use Rattle.form.specs.Reading.{read_field, read_each, read_fields, line_as, key_
 use Rattle.law.specs.declared.Rules.TheVariants.{Idf3}
 use Rattle.basics.specs.Integers.{eq_z}
 use Rattle.order_loops.specs.Loops.{loop_after}
-use Rattle.law.specs.Records.{shape_of, many_loops, is_middle, names_aComponent}
+use Rattle.law.specs.Records.{shape_of, many_loops, is_middle, names_a_component}
 use Rattle.order.specs.Stages.{may_open, after}
 use Rattle.order.specs.Places.{data_kind, key_kind}
 use Rattle.order.specs.Automaton.{start, advance, may_stand}
@@ -195,7 +195,7 @@ with12 =
     ∷ []
 
 pub each_number : Faulty with3 × Faulty with4 × Faulty with5 × Faulty with6 × Faulty with7 × Faulty with8 × Faulty with9 × Faulty with10 × Faulty with11 × Faulty with12
-unfolding told_from line_says said_at line_as begins all_of permitted fields_of fields_in field_of field_at bare_at quoted_at closed_at ends_well span keyword_of key_from folded same_bytes word_at place_of words_of sections section_names kind_at section_of line_of role_of layout_of types_of key_kind data_kind may_stand may_open shape_of advance well_formed fits_all fits good_text is_empty meaning is_name named is_in kept within beyond barred read_fields read_each read_field read_number body whole decimals to_count digit_here read_integer unsigned digits is_date fits_in is_two date_pieces names_aComponent loop_after eq_z many_loops is_middle after
+unfolding told_from line_says said_at line_as begins all_of permitted fields_of fields_in field_of field_at bare_at quoted_at closed_at ends_well span keyword_of key_from folded same_bytes word_at place_of words_of sections section_names kind_at section_of line_of role_of layout_of types_of key_kind data_kind may_stand may_open shape_of advance well_formed fits_all fits good_text is_empty meaning is_name named is_in kept within beyond barred read_fields read_each read_field read_number body whole decimals to_count digit_here read_integer unsigned digits is_date fits_in is_two date_pieces names_a_component loop_after eq_z many_loops is_middle after
 each_number = (
   refused_all with3 refl,
   refused_all with4 refl,

@@ -30,7 +30,7 @@ module _ {file : List ℕ} {old new : List ℤ} {r : Reply} (o : Reads file old 
   left =
       let w = read_list file (length old) (sym (ap (λ (q : Reply). q.number) o.answer) ∙ z) in
       let e : w.1.0 ≡ rs = files.one_list Idf3 w.1.1 s in
-      ap (take (stride * length rs)) o.left ∙ texts.read-front file s w.0 old (subst (λ (k : List Rec). length k ≤ capacity (length old)) e w.1.2)
+      ap (take (stride * length rs)) o.left ∙ texts.read_front file s w.0 old (subst (λ (k : List Rec). length k ≤ capacity (length old)) e w.1.2)
 
   -- what it leaves are the rows of the lines, in which each start is the place of the field's own first byte, and the last number that of the line
   pub starts : RowsOf (under Idf3 (titled rs)) file ls rs (take (stride * length rs) new)

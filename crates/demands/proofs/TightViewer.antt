@@ -3,12 +3,12 @@ use mathlib.Core.Path.{refl, sym, ◌∙◌}
 use seplogic.Ra.Ura.{Ura}
 use base.Logic.{ent}
 use contract.Monad.{conj, conj_l, conj_r, fact, fact_i, fact_use}
-use Rattle.viewer.specs.contracts.opened as viewer-opened
-use Rattle.viewer.specs.contracts.next as viewer-next
-use Rattle.viewer.proofs.step_at.Kinds as viewer-step-at
-use Rattle.viewer.proofs.step_at.Reads as viewer-step-at-says
-use Rattle.viewer.proofs.line.fields_at.Kinds as viewer-line-fields-at
-use Rattle.viewer.proofs.line.fields_at.Reads as viewer-line-fields-at-says
+use Rattle.viewer.specs.contracts.opened as viewer_opened
+use Rattle.viewer.specs.contracts.next as viewer_next
+use Rattle.viewer.proofs.step_at.Kinds as viewer_step_at
+use Rattle.viewer.proofs.step_at.Reads as viewer_step_at_says
+use Rattle.viewer.proofs.line.fields_at.Kinds as viewer_line_fields_at
+use Rattle.viewer.proofs.line.fields_at.Reads as viewer_line_fields_at_says
 use Rattle.demands.specs.Tight.{Tight, TightIn}
 
 -- what follows from two facts
@@ -18,16 +18,16 @@ both 𝓤 φ ψ χ f =
     fact_use 𝓤 ψ (conj_r 𝓤 (fact 𝓤 φ) (fact 𝓤 ψ)) (λ y.
     fact_i 𝓤 χ (conj 𝓤 (fact 𝓤 φ) (fact 𝓤 ψ)) (f x y)))
 
-pub tight_viewer_opened : {M : Type 1} → TightIn M viewer-opened.ended viewer-opened.clauses
+pub tight_viewer_opened : {M : Type 1} → TightIn M viewer_opened.ended (λ 𝓤. viewer_opened.clauses)
 tight_viewer_opened 𝓤 𝓛 mem run κs a g r q ws us =
     both 𝓤 _ _ _ (λ e f. (λ i. record { file = (e.0 ∙ sym f.0) i; at = (e.1 ∙ sym f.1) i; line = (e.2 ∙ sym f.2) i }, refl))
 
-pub tight_viewer_next : {M : Type 1} → TightIn M viewer-next.ended viewer-next.clauses
+pub tight_viewer_next : {M : Type 1} → TightIn M viewer_next.ended (λ 𝓤. viewer_next.clauses)
 tight_viewer_next 𝓤 𝓛 mem run κs a g r q ws us =
     both 𝓤 _ _ _ (λ e f. (e.0 ∙ sym f.0, λ i. ((e.1 ∙ sym f.1) i, ((e.2 ∙ sym f.2) i, tt))))
 
-pub tight_viewer_step_at : Tight 2 viewer-step-at.ps viewer-step-at.r viewer-step-at-says.Learnt
+pub tight_viewer_step_at : Tight 2 viewer_step_at.ps viewer_step_at.r viewer_step_at_says.Learnt
 tight_viewer_step_at κs a r q ws us e f = (e.0 ∙ sym f.0, λ i. (ws.0, (ws.1.0, (ws.1.1.0, ((e.1 ∙ sym f.1) i, tt)))))
 
-pub tight_viewer_line_fields_at : Tight 2 viewer-line-fields-at.ps viewer-line-fields-at.r viewer-line-fields-at-says.Learnt
+pub tight_viewer_line_fields_at : Tight 2 viewer_line_fields_at.ps viewer_line_fields_at.r viewer_line_fields_at_says.Learnt
 tight_viewer_line_fields_at κs a r q ws us e f = (e.0 ∙ sym f.0, λ i. (ws.0, (ws.1.0, (ws.1.1.0, ((e.1 ∙ sym f.1) i, tt)))))

@@ -1,4 +1,6 @@
 // The layout of each kind of line, as a table of letters: how many fields, and the type of each.
+#![tactic(auto)]
+
 ghost use Rattle.std.specs.Prelude.{◌≡◌, ◌+◌, ◌≤◌, ◌<◌, length};
 ghost use Rattle.law.specs.Layouts.{types_of};
 ghost use Rattle.law.specs.Kinds.{section_of};

@@ -89,9 +89,9 @@ sought_from k (r ∷ rows) s = rw (matched_is r s) (go (same_bytes (trimmed r) (
     go false none e = e
     go false (some n) e = e ∙ ap At (omega arith)
 
-from_zero : (o : Option ℕ) → found_from 0 o ≡ found o
-from_zero none = refl
-from_zero (some n) = ap At (omega arith)
+from_zero_lem : (o : Option ℕ) → found_from 0 o ≡ found o
+from_zero_lem none = refl
+from_zero_lem (some n) = ap At (omega arith)
 
 -- the rows of each list hold its words
 pub rows_are : (v : Rules) (l : Words) → map trimmed (take (span_of v l).count (drop (span_of v l).first word_table)) ≡ words_of v l
@@ -106,7 +106,7 @@ rows_are Idf3 Plates = refl
 rows_are Idf3 Statuses = refl
 
 pub place_is : (v : Rules) (l : Words) (s : List ℕ) → sought 0 (take (span_of v l).count (drop (span_of v l).first word_table)) s ≡ found (place_of (words_of v l) (folded s))
-place_is v l s = sought_from 0 (take (span_of v l).count (drop (span_of v l).first word_table)) s ∙ rw (rows_are v l) (from_zero (place_of (words_of v l) (folded s)))
+place_is v l s = sought_from 0 (take (span_of v l).count (drop (span_of v l).first word_table)) s ∙ rw (rows_are v l) (from_zero_lem (place_of (words_of v l) (folded s)))
 
 pub span_within : (v : Rules) (l : Words) → (span_of v l).first + (span_of v l).count ≤ 24
 span_within Idf3 FileTypes = omega arith

@@ -1,4 +1,6 @@
 // Section keywords and words, each looked up in a table of fixed byte strings, padded with spaces.
+#![tactic(auto)]
+
 mod keywords;
 mod words;
 
@@ -12,14 +14,14 @@ use form::Keyword;
 use law::{Rules, Words};
 
 // The place of a word in its list, from 0.
-#[derive(Drop)]
+#[derive(Clone, Copy)]
 pub enum WordAnswer {
     At(u64),
     Nowhere,
 }
 
 // Some rows of a table, one after the other.
-#[derive(Drop)]
+#[derive(Clone, Copy)]
 pub struct Span {
     pub first: usize,
     pub count: usize,

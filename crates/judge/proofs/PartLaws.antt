@@ -7,7 +7,6 @@ use native.Mathlib.Omega.{arith}
 use native.Mathlib.Nat.{mod-lt}
 use borrow.Author.Tests.{lt-ltb, le-ltb, ltb-true, ltb-false, eqb-true, eqb-false}
 use lib.Dec.{ltb, eqb}
-use lib.IntN.{ℤ}
 use Rattle.rows_texts.specs.Names.{key_of}
 use Rattle.law.specs.declared.Verdict.{Verdict}
 use Rattle.judge_stock.specs.Stock.{part_of, is_in}

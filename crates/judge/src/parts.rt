@@ -22,7 +22,7 @@ const MANY: u64 = 50_000;
 const FEW: usize = 2_048;
 
 // What came of a part: its verdict; or, where one part would have too many components, how many parts there are to be.
-#[derive(Drop)]
+#[derive(Clone, Copy)]
 enum OfPart {
     Told(Verdict),
     Divided(u64),

@@ -23,6 +23,8 @@
 // Proved: what a slot shows, the library has (`Stocked`, judge/proofs/StockTrue), and what no slot shows is looked for; the
 // verdicts on the parts give that on the whole board (`soonest`, judge/proofs/SoonLaws). So no verdict depends on slots, tags
 // or parts.
+#![tactic(auto)]
+
 ghost use Rattle.std.specs.Prelude.{◌≡◌, ◌^◌, ◌≤◌, ◌<◌, length};
 ghost use Rattle.rows_texts.specs.Names.{key_of};
 ghost use Rattle.names_slots.specs.Looks.{looks};

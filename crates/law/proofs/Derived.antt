@@ -14,7 +14,7 @@ use Rattle.law.specs.Given.{Fails}
 use Rattle.law.specs.Bytes as by
 use Rattle.law.specs.Bytes.{permitted, all_of, ascii}
 use Rattle.law.specs.Lines as lines
-use Rattle.law.specs.Fields.{Field, field, Spells, bare, Spelled, space, last as last-field, next as next_field}
+use Rattle.law.specs.Fields.{Field, field, Spells, bare, Spelled, space, last as last_field, next as next_field}
 use Rattle.law.specs.Limits.{largest_length, whole_turn}
 use Rattle.law.specs.Numbers.{Digit, one, last, next, with_point, SpellsNumber, plain, minus}
 use Rattle.law.specs.Dates.{date_pieces, is_two, fits_in, is_date}
@@ -22,8 +22,8 @@ use Rattle.law.specs.Words.{words_of, same_bytes, word_at, named, is_in, folded}
 use Rattle.law.specs.Sections.{sections, section_names}
 use Rattle.law.specs.Kinds.{section_of, line_of, Role, point, role_of}
 use Rattle.law.specs.Layouts.{plain as data_line_lem, layout_of, types_of}
-use Rattle.law.specs.Values.{Value, number, word, Rec}
-use Rattle.law.specs.Records.{Place, place_of, angle_of, is_library, shape_of, many_loops, Named, names_aComponent}
+use Rattle.law.specs.Values.{Value, word, Rec}
+use Rattle.law.specs.Records.{Place, place_of, angle_of, is_library, shape_of, many_loops, Named, names_a_component}
 use Rattle.law.specs.Fits.{under, within, meaning, barred, good_text, is_empty, fits, fits_all, well_formed, is_name}
 use Rattle.law.specs.WordSpelling.{Listed, here, there, AnyCase, end, same, small}
 use Rattle.law.specs.RecordSpelling.{SpellsField, as_word, is_data}
@@ -47,7 +47,7 @@ use Rattle.law.specs.declared.Context.{Context}
 use Rattle.law.specs.declared.Words.{Words}
 use Rattle.law.specs.declared.Words.TheVariants.{Units}
 use Rattle.law.specs.declared.FieldType.TheVariants.{Text, Word}
-use Rattle.law.proofs.Samples.{of, said, count, point_at, title, heading, circled, placing, board, part, position, electrical, mechanical, library}
+use Rattle.law.proofs.Samples.{said, count, point_at, heading, circled, placing, board, part, position, electrical, mechanical, library}
 
 -- lines: byte 10 ends each, or 13 and 10, and the last may lack its end
 pub either_end : lines.File (ascii "a" ∷ [] ∷ ascii "b" ∷ []) (97 ∷ 10 ∷ 13 ∷ 10 ∷ 98 ∷ [])
@@ -121,7 +121,7 @@ abbrev referring : List ℕ → List Field
 referring r = field false (ascii "a") ∷ field false (ascii "b") ∷ field false r ∷ []
 
 spelled_so : (r : List ℕ) → Spells (field false r) r → Spelled (referring r) (ascii "a b " ++ r)
-spelled_so r s = next_field (bare (by.one refl by.none)) (space (next_field (bare (by.one refl by.none)) (space (last-field s))))
+spelled_so r s = next_field (bare (by.one refl by.none)) (space (next_field (bare (by.one refl by.none)) (space (last_field s))))
 
 pub other_reference : OtherLine (record { front = data_line_lem; types = Text Plain ∷ Text Plain ∷ Text Reference ∷ [] }) (ascii "a b BOARD") (ascii "a b Board")
 unfolding folded is_name named is_in same_bytes is_data by.begins
@@ -176,6 +176,7 @@ there_and_back =
 
 pub no_centre : {v : Rules} {t : FileType} {s : ℕ} {label : ℤ} {a b : Rec} → Loop v t s label (a ∷ b ∷ []) → place_of b ≢ place_of a
 no_centre (circle p z q e w) = e
+no_centre {v = v} {t = t} {s = s} {label = label} {a = a} {b = b} (path _ _ _ x16) = elim x16 [ ]
 
 pub two_loops : {v : Rules} {t : FileType} {s : ℕ} {rs ms : List Rec} → Loop v t s (pos 0) rs → Loop v t s (pos 1) ms → Loops v t s (pos 0) (rs ++ ms)
 two_loops a b = another a (final b)
@@ -212,11 +213,11 @@ other_part : {a b : Named} → length a.number ≢ length b.number → a ≢ b
 other_part h e = h (ap (λ (n : Named). length n.number) e)
 
 pub two_parts : Distinct Idf3 (library (electrical "g" "p" ++ mechanical "g" "pp"))
-unfolding names_aComponent
+unfolding names_a_component
 two_parts = and_new (nor (other_part {a = record { geometry = ascii "g"; number = ascii "p" }} {b = record { geometry = ascii "g"; number = ascii "pp" }} (λ e. absurd (omega (arith, e)))) in_none) (and_new in_none nothing_named)
 
 pub one_name : Distinct Idf3 (library (electrical "g" "p" ++ mechanical "g" "p")) → ⊥
-unfolding names_aComponent
+unfolding names_a_component
 one_name (and_new (nor h q) d) = h refl
 
 -- rows: the title line of a library of three lines, as document 01 has its columns

@@ -1,8 +1,7 @@
 -- Refusals that the rules give, derived step by step; an edit of a rule is refused here.
-use Prim.Native.Nat.{ℕ}
-use mathlib.Core.Path.{◌≡◌, refl, ap}
+use mathlib.Core.Path.{refl, ap}
 use mathlib.Core.Logic.{◌≢◌}
-use mathlib.Core.List.{List, [], ◌∷◌, ◌++◌}
+use mathlib.Core.List.{[], ◌∷◌, ◌++◌}
 use mathlib.Core.Bool.{Bool, true, false, false≢true}
 use native.Mathlib.Omega.{arith}
 use lib.IntN.{pos, negsuc}
@@ -17,7 +16,7 @@ use Rattle.law.specs.Magnitudes.{last, next, with_point, InMagnitude, plain}
 use Rattle.law.specs.Sections.{sections, section_names}
 use Rattle.law.specs.Kinds.{section_of, line_of, role_of}
 use Rattle.law.specs.Values.{word}
-use Rattle.law.specs.Records.{names_aComponent}
+use Rattle.law.specs.Records.{names_a_component}
 use Rattle.law.specs.LineSpelling.{end}
 use Rattle.law.specs.Lists.{nothing_named}
 use Rattle.law.specs.Answers.{reply}
@@ -73,7 +72,7 @@ a_tab = by_3 not_blank not_clean
 
 -- so it is named as the first line of its file
 pub named_first : Answered (9 ∷ []) (reply 3 1 0)
-unfolding names_aComponent
+unfolding names_a_component
 named_first = refused [] (9 ∷ []) [] (omega arith) (last_Line (by.one refl by.none)) ([], record { more = board (part "g" "p" "R1" ∷ position ∷ []); permitted = small_board; distinct = nothing_named; spelled = end }, a_tab)
 
 -- an outline's closing line can stand behind its leading line, points aside: it is the loop rule, and not its place, that is in its way

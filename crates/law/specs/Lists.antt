@@ -7,7 +7,7 @@ use Rattle.law.specs.Values.{Rec}
 use Rattle.law.specs.Sections.{Shape, header, outline, component, keepout, listing, placements}
 use Rattle.law.specs.Kinds.{section_of, Role, opening, closing, title, name, lead, point, prop, entry, part, position, role_of}
 use Rattle.law.specs.Fits.{under, WellFormed}
-use Rattle.law.specs.Records.{shape_of, many_loops, is_middle, is_component, is_library, Place, label_of, place_of, angle_of, type_in, Named, names_aComponent, name_in}
+use Rattle.law.specs.Records.{shape_of, many_loops, is_middle, is_component, is_library, Place, label_of, place_of, angle_of, type_in, Named, names_a_component, name_in}
 use Rattle.law.specs.Limits.{whole_turn}
 use Rattle.law.specs.declared.Rules.{Rules}
 use Rattle.law.specs.declared.FileType.{FileType}
@@ -124,7 +124,7 @@ module _ (v : Rules) where
 -- the names of the components, in order
 abbrev pub names_of : Rules → List Rec → List Named
 names_of v [] = []
-names_of v (r ∷ rs) = cond (names_aComponent v r.kind) (name_in r ∷ names_of v rs) (names_of v rs)
+names_of v (r ∷ rs) = cond (names_a_component v r.kind) (name_in r ∷ names_of v rs) (names_of v rs)
 
 -- another name than each of these
 pub data NotAmong (a : Named) : List Named → Type 0 where

@@ -85,8 +85,8 @@ pub record Named : Type 0 where
   pub number : List ℕ
 
 -- the leading lines of 14 and 15
-unfoldable pub names_aComponent : Rules → ℕ → Bool
-names_aComponent Idf3 k = eqb k electrical_kind || eqb k mechanical_kind
+unfoldable pub names_a_component : Rules → ℕ → Bool
+names_a_component Idf3 k = eqb k electrical_kind || eqb k mechanical_kind
 
 -- its geometry and its part
 abbrev pub name_in : Rec → Named

@@ -1,14 +1,16 @@
 // The types that the rules share with the code. The rules stand in specs/, and depend on nothing.
+#![tactic(auto)]
+
 pub mod refusals;
 
 // The version of the format whose rules hold.
-#[derive(Drop)]
+#[derive(Clone, Copy)]
 pub enum Rules {
     Idf3,
 }
 
 // What a file is, by its title line.
-#[derive(Drop)]
+#[derive(Clone, Copy)]
 pub enum FileType {
     Board,
     Panel,
@@ -16,14 +18,14 @@ pub enum FileType {
 }
 
 // What a line is read under: the rules, and the type of the file.
-#[derive(Drop)]
+#[derive(Clone, Copy)]
 pub struct Context {
     pub rules: Rules,
     pub file: FileType,
 }
 
 // The lists that a word is looked up in.
-#[derive(Drop)]
+#[derive(Clone, Copy)]
 pub enum Words {
     FileTypes,
     Units,
@@ -36,7 +38,7 @@ pub enum Words {
 }
 
 // The limit on a number's count: a length, one from zero on, one above zero, an included angle, a rotation, the version.
-#[derive(Drop)]
+#[derive(Clone, Copy)]
 pub enum Limit {
     Length,
     NotBelow,
@@ -47,7 +49,7 @@ pub enum Limit {
 }
 
 // What a text may name: nothing of its own, what a reference names, what a hole's part does.
-#[derive(Drop)]
+#[derive(Clone, Copy)]
 pub enum Texts {
     Plain,
     Reference,
@@ -55,7 +57,7 @@ pub enum Texts {
 }
 
 // What a field may hold.
-#[derive(Drop)]
+#[derive(Clone, Copy)]
 pub enum FieldType {
     Text(Texts),
     Date,
@@ -65,7 +67,7 @@ pub enum FieldType {
 }
 
 // What every operation answers: a refusal's number or 0, its line, and a count.
-#[derive(Drop)]
+#[derive(Clone, Copy)]
 pub struct Reply {
     pub number: u64,
     pub line: u64,
@@ -73,7 +75,7 @@ pub struct Reply {
 }
 
 // What an operation on two files answers: a reply, and which of them was refused, 0 if neither.
-#[derive(Drop)]
+#[derive(Clone, Copy)]
 pub struct Verdict {
     pub number: u64,
     pub line: u64,

@@ -1,4 +1,6 @@
 // One field from its bytes, by its type.
+#![tactic(auto)]
+
 ghost use Rattle.std.specs.Prelude.{◌≡◌, true, false, leb, nat_abs};
 ghost use Rattle.law.specs.Fields.{field};
 ghost use Rattle.law.specs.Limits.{largest_length, largest_angle, in_turn};
@@ -15,7 +17,7 @@ use law::{Context, FieldType, FileType, Limit, Rules, Texts, Words, refusals};
 use number::{Angle, AngleAnswer, Length, LengthAnswer, NumberAnswer, WholeAnswer};
 
 // What a field reads as: a number, a word's place, bytes as they stand, or the number of a refusal.
-#[derive(Drop)]
+#[derive(Clone, Copy)]
 pub enum FieldReply {
     Number(i64),
     Word(u64),

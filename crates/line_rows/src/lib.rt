@@ -1,4 +1,6 @@
 // One line by itself: what it is, and the row that its fields give under a layout.
+#![tactic(auto)]
+
 pub mod columns;
 pub mod looks;
 
@@ -6,7 +8,7 @@ use rows::WIDTH;
 
 // A line: a comment or blank; refused with 3 or 4; a keyword line; a data line, which begins with the bare word PROP or not.
 // The last two with the number of all fields and the place behind the first.
-#[derive(Drop)]
+#[derive(Clone, Copy)]
 pub enum LineKind {
     Free,
     Bad(u64),
@@ -15,7 +17,7 @@ pub enum LineKind {
 }
 
 // A field as it goes into a row: a number, a word's place, a text's start in the line and length; each with the place behind it.
-#[derive(Drop)]
+#[derive(Clone, Copy)]
 pub enum Entry {
     Number(i64, usize),
     Word(u64, usize),
@@ -24,7 +26,7 @@ pub enum Entry {
 }
 
 // A row as it is filled: its columns, the next one, the place in the line, and a refusal's number or 0.
-#[derive(Drop)]
+#[derive(Clone, Copy)]
 pub struct Filling {
     pub row: [i64; WIDTH],
     pub column: usize,
@@ -33,7 +35,7 @@ pub struct Filling {
 }
 
 // What is known of a row beside its columns: the next one, the place in the line, and a refusal's number or 0.
-#[derive(Drop)]
+#[derive(Clone, Copy)]
 struct Placed {
     column: usize,
     at: usize,

@@ -1,5 +1,5 @@
 -- Laws of the hash of a name, and of the marks that a line leaves.
-use Prim.Native.Nat.{ℕ, ◌-◌, ◌<◌}
+use Prim.Native.Nat.{ℕ, ◌<◌}
 use mathlib.Core.Path.{◌≡◌, refl, sym, ap, ◌∙◌}
 use mathlib.Core.List.{List}
 use mathlib.Core.Bool.{Bool, true, false, not, ◌&&◌, true≢false, false≢true}
@@ -48,17 +48,17 @@ module _ (b : Bool) (xs : List ℕ) (g : ℕ) where
       some_clear l = sym (held ∙ l)
 
       module _ (ys : List ℕ) where
-        pub some-doubted : m ≡ true → (zs : List ℕ) → zs ≡ marked ys k → zs ≡ marked_if (held_if b xs g) ys g
+        pub some_doubted : m ≡ true → (zs : List ℕ) → zs ≡ marked ys k → zs ≡ marked_if (held_if b xs g) ys g
         unfolding marked_if
-        some-doubted l zs j = rw (held ∙ l, ← e) j
+        some_doubted l zs j = rw (held ∙ l, ← e) j
 
         pub some_undoubted : m ≡ false → ys ≡ marked_if (held_if b xs g) ys g
         unfolding marked_if
         some_undoubted l = rw (held ∙ l)
 
-        pub some-again : m ≡ true → (r : Bool) → r ≡ may_hold ys k → r ≡ held_if (held_if b xs g) ys g
+        pub some_again : m ≡ true → (r : Bool) → r ≡ may_hold ys k → r ≡ held_if (held_if b xs g) ys g
         unfolding held_if
-        some-again l r j = j ∙ ap (may_hold ys) e ∙ sym (ap (λ (c : Bool). c && may_hold ys g) (held ∙ l))
+        some_again l r j = j ∙ ap (may_hold ys) e ∙ sym (ap (λ (c : Bool). c && may_hold ys g) (held ∙ l))
 
         pub some_not_again : m ≡ false → false ≡ held_if (held_if b xs g) ys g
         unfolding held_if

@@ -22,6 +22,8 @@
 // Proved: a doubtful name without its mark came on no line before (`Telling`, specs/Marks); the first line that names a
 // doubtful component again is the first that names any again, and without a doubt there is none (`Doubted`). So no reply
 // depends on the hash, the bits or the sizes of the arrays. The writer asks its rows in the same way (`write::repeats`).
+#![tactic(auto)]
+
 ghost use Rattle.std.specs.Prelude.{◌≡◌, ◌≤◌, ◌<◌, length};
 ghost use Rattle.rows_texts.specs.Names.{key_of};
 ghost use Rattle.law.specs.Answers.{limit};

@@ -15,6 +15,8 @@
 // Proved: each function answers what its definition says (specs/Hashes, specs/Slots). After `place` every slot holds what it
 // held or what was placed (`placed_all`, proofs/SlotLaws), and what a look finds stands in some slot (`held_sound`): so what
 // holds of all numbers that were placed holds of the one that is found.
+#![tactic(auto)]
+
 pub mod marks;
 
 ghost use Rattle.std.specs.Prelude.{◌≡◌, ◌+◌, ◌≤◌, ◌<◌, length};

@@ -1,4 +1,6 @@
 // Numbers: lengths, angles and integers, kept apart by kind. Each is made by its constructors alone.
+#![tactic(auto)]
+
 ghost use Rattle.std.specs.Prelude.{◌≡◌, nat_abs};
 ghost use Rattle.law.specs.Limits.{below};
 ghost use Rattle.number.specs.Limits.{length_of, angle_of, included_of, integer_of};
@@ -22,11 +24,11 @@ pub fn is_below(z: i64) -> bool
 }
 
 // A length, as a count of hundred-thousandths of the file's unit.
-#[derive(Drop)]
+#[derive(Clone, Copy)]
 pub struct Length(i64);
 
 // A length, or none where the count is beyond the largest.
-#[derive(Drop)]
+#[derive(Clone, Copy)]
 pub enum LengthAnswer {
     Made(Length),
     Beyond,
@@ -55,11 +57,11 @@ impl Length {
 }
 
 // An angle in degrees, as a count of hundred-thousandths.
-#[derive(Drop)]
+#[derive(Clone, Copy)]
 pub struct Angle(i64);
 
 // An angle, or none where the count is beyond the limit.
-#[derive(Drop)]
+#[derive(Clone, Copy)]
 pub enum AngleAnswer {
     Made(Angle),
     Beyond,
@@ -105,11 +107,11 @@ impl Angle {
 }
 
 // An integer: a loop's label, a file's version number.
-#[derive(Drop)]
+#[derive(Clone, Copy)]
 pub struct Integer(i64);
 
 // An integer, or none where the value is beyond the largest.
-#[derive(Drop)]
+#[derive(Clone, Copy)]
 pub enum IntegerAnswer {
     Made(Integer),
     Beyond,
@@ -136,7 +138,7 @@ impl Integer {
 }
 
 // What a field reads as where a number must stand: a count; no number, or one past its magnitude; one with too fine a decimal.
-#[derive(Drop)]
+#[derive(Clone, Copy)]
 pub enum NumberAnswer {
     Count(i64),
     NotNumber,
@@ -144,7 +146,7 @@ pub enum NumberAnswer {
 }
 
 // What a field reads as where an integer must stand.
-#[derive(Drop)]
+#[derive(Clone, Copy)]
 pub enum WholeAnswer {
     Whole(Integer),
     NotInteger,

@@ -1,4 +1,6 @@
 // A count and an integer as bytes, written into a lent slice from a place on, and the number of bytes that this takes.
+#![tactic(auto)]
+
 ghost use Rattle.std.specs.Prelude.{◌≡◌, [], ◌∷◌, ◌+◌, ◌/◌, ◌%◌, ◌≤◌, ◌<◌, nat_abs, length};
 ghost use Rattle.law.specs.Limits.{largest_length};
 ghost use Rattle.number_print.specs.Printing.{Wrote, top};

@@ -1,4 +1,6 @@
 // A number, an integer and a date from the bytes of a field. A numeral may have any length; its value decides.
+#![tactic(auto)]
+
 ghost use Rattle.std.specs.Prelude.{◌≡◌, false, ◌+◌, ◌*◌, ◌^◌, ◌≤◌, ◌<◌, ltb, length, drop, get_or};
 ghost use Rattle.number.specs.Signs.{signed};
 ghost use Rattle.law.specs.Limits.{largest_length, largest_integer, most_decimals};

@@ -15,7 +15,7 @@ use Rattle.law.specs.Layouts.{layout_of}
 use Rattle.law.specs.Fits.{within, barred, good_text, is_empty, meaning, fits, fits_all, well_formed, is_name}
 use Rattle.law.specs.declared.Rules.TheVariants.{Idf3}
 use Rattle.law.specs.declared.FileType.TheVariants.{Board as board, Library as library}
-use Rattle.law.specs.Records.{shape_of, many_loops, is_middle, names_aComponent}
+use Rattle.law.specs.Records.{shape_of, many_loops, is_middle, names_a_component}
 use Rattle.law.specs.Limits.{whole_turn}
 use Rattle.order_loops.specs.Loops.{loop_after}
 use Rattle.order.specs.Stages.{may_open, after}
@@ -96,7 +96,7 @@ record Cases : Type 0 where
   board_as_reference : ran (the_board ++ (outlined (circle_of 22 0) ++ (of 130 [] ∷ of 131 (text [] ∷ text [] ∷ text (ascii "BOARD") ∷ []) ∷ []))) ≡ stopped 10 unfit
 
 cases : Cases
-unfolding sections section_of line_of role_of layout_of shape_of well_formed fits_all fits within good_text meaning is_name named is_in folded barred all_of permitted same_bytes words_of word_at is_empty is_date fits_in is_two date_pieces may_open after is_middle many_loops names_aComponent advance loop_after eq_z
+unfolding sections section_of line_of role_of layout_of shape_of well_formed fits_all fits within good_text meaning is_name named is_in folded barred all_of permitted same_bytes words_of word_at is_empty is_date fits_in is_two date_pieces may_open after is_middle many_loops names_a_component advance loop_after eq_z
 cases =
     record {
       nothing_yet = refl;

@@ -10,7 +10,7 @@ use Rattle.law.specs.Fits.{under, well_formed}
 use Rattle.law.specs.declared.Rules.{Rules}
 use Rattle.law.specs.declared.FileType.{FileType}
 use Rattle.law.specs.declared.FileType.TheVariants.{Board as board, Panel as panel, Library as library}
-use Rattle.law.specs.Records.{shape_of, many_loops, type_in, Named, names_aComponent, name_in}
+use Rattle.law.specs.Records.{shape_of, many_loops, type_in, Named, names_a_component, name_in}
 use Rattle.order.specs.Marks.{point_of}
 use Rattle.order_loops.specs.Loops.{loop_after, complete}
 use Rattle.order.specs.declared.Stage.{Stage}
@@ -194,11 +194,11 @@ is_among a (b ∷ bs) = same_name a b || is_among a bs
 
 -- the record names a component as one before it did
 abbrev pub repeats : Rules → List Named → Rec → Bool
-repeats v used r = names_aComponent v r.kind && is_among (name_in r) used
+repeats v used r = names_a_component v r.kind && is_among (name_in r) used
 
 -- the names used, the record's too
 abbrev pub noted : Rules → List Named → Rec → List Named
-noted v used r = cond (names_aComponent v r.kind) (name_in r ∷ used) used
+noted v used r = cond (names_a_component v r.kind) (name_in r ∷ used) used
 
 -- a used name is refused, after every other refusal
 abbrev pub unless : Bool → Outcome → Outcome

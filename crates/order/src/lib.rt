@@ -1,10 +1,12 @@
 // Where a file stands between two lines, why a record is refused there, and what the operations answer: types and definitions that
 // other crates share.
+#![tactic(auto)]
+
 use law::FileType;
 use order_loops::LoopState;
 
 // The sections behind us: none; the header; the outline, and whether holes and notes are among what follows it; all. Each but the first has the file's type.
-#[derive(Drop)]
+#[derive(Clone, Copy)]
 pub enum Stage {
     Nothing,
     Headed(FileType),
@@ -13,7 +15,7 @@ pub enum Stage {
 }
 
 // Where we are in a section.
-#[derive(Drop)]
+#[derive(Clone, Copy)]
 pub enum Phase {
     AwaitTitle,
     AwaitName(FileType),
@@ -27,14 +29,14 @@ pub enum Phase {
 }
 
 // Between sections; or in a section, with the stage from before it.
-#[derive(Drop)]
+#[derive(Clone, Copy)]
 pub enum State {
     Between(Stage),
     Inside(Stage, u64, Phase),
 }
 
 // Why a record is refused: it cannot stand here; its values do not fit; it breaks a loop rule; it names a component as one before it did.
-#[derive(Drop)]
+#[derive(Clone, Copy)]
 pub enum Reason {
     Misplaced,
     Unfit,
@@ -43,7 +45,7 @@ pub enum Reason {
 }
 
 // What a record does: the next state, or a refusal.
-#[derive(Drop)]
+#[derive(Clone, Copy)]
 pub enum Outcome {
     Next(State),
     Refused(Reason),

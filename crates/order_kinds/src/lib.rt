@@ -1,4 +1,6 @@
 // The kind of a line by its place, and what a line of a kind is for.
+#![tactic(auto)]
+
 ghost use Rattle.std.specs.Prelude.{◌≡◌, ◌≤◌};
 ghost use Rattle.law.specs.Kinds.{data_role, role_of};
 ghost use Rattle.law.specs.Records.{shape_of};

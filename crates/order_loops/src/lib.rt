@@ -1,4 +1,6 @@
 // The loop rule, one point at a time: circles of two lines, and paths that end where they began.
+#![tactic(auto)]
+
 ghost use Rattle.std.specs.Prelude.{◌≡◌};
 ghost use Rattle.std.proofs.Math.IntN.{suc_ℤ};
 ghost use Rattle.basics.specs.Integers.{eq_z};
@@ -10,14 +12,14 @@ use number::{Angle, Length};
 use rows::Point;
 
 // A place in the plane.
-#[derive(Drop)]
+#[derive(Clone, Copy)]
 pub struct Place {
     pub x: Length,
     pub y: Length,
 }
 
 // A section's points so far, with label, first place and last place: none; one; two or more and not back; back at the first; a circle.
-#[derive(Drop)]
+#[derive(Clone, Copy)]
 pub enum LoopState {
     NoPoint,
     OnePoint(i64, Place),
@@ -27,7 +29,7 @@ pub enum LoopState {
 }
 
 // What one more point does: the loop goes on, or its rule is broken.
-#[derive(Drop)]
+#[derive(Clone, Copy)]
 pub enum LoopAnswer {
     Onward(LoopState),
     Broken,

@@ -1,4 +1,6 @@
 // Where a file stands between two lines: which lines may stand there, and what a line does.
+#![tactic(auto)]
+
 pub mod stages;
 
 ghost use Rattle.std.specs.Prelude.{◌≡◌};

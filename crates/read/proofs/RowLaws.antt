@@ -21,7 +21,7 @@ use Rattle.law.specs.declared.Reply.{Reply}
 use Rattle.walk.specs.declared.Walk.{Walk}
 use Rattle.walk.specs.declared.Turn.{Turn}
 use Rattle.law.specs.Answers.{limit, reply, over}
-use Rattle.walk.specs.Walks.{begun, turn_of, is_row, stops_by, Steady, Trace, row, trace_by, trace_at}
+use Rattle.walk.specs.Walks.{begun, turn_of, is_row, stops_by, Steady, Trace, trace_by, trace_at}
 use Rattle.read.specs.Replies.{check_reply, rows_in, rows_of, placed_at, place_behind, RowRoom, read_reply, read_rows}
 use Rattle.walk.proofs.WalkLaws.{Going, going_start, going_trace, going_less, going_more, going_end}
 use Rattle.read.proofs.RowWidths.{turn_wide, lined_wide, check_counts}

@@ -34,7 +34,7 @@ use Rattle.walk.specs.declared.Walk.{Walk}
 use Rattle.walk.specs.declared.Turn.{Turn}
 use Rattle.walk.specs.Judging.{refused_by, free_by, moved_row, filled_by, judged}
 use Rattle.law.specs.Answers.{limit, reply}
-use Rattle.walk.specs.Walks.{begun, turn_of, line_in, Trace, done, row, trace_by, trace_in, trace_at}
+use Rattle.walk.specs.Walks.{begun, turn_of, line_in, Trace, done, trace_by, trace_in, trace_at}
 use Rattle.names.specs.Names.{repeat_of}
 use Rattle.read.specs.Replies.{ended_by, surveyed, survey, check_reply, rows_in, rows_of}
 use Rattle.walk.proofs.EveryLine.{every_line}

@@ -49,7 +49,7 @@ fn ended(r: Reply, w: Walk) -> Reply
 }
 
 // What the first walk over a file tells: its reply but for names used twice, its type, and whether a name is doubtful.
-#[derive(Drop)]
+#[derive(Clone, Copy)]
 struct FirstWalk {
     reply: Reply,
     file: FileType,
@@ -136,7 +136,9 @@ fn by_all(file: &[u8]) -> Checked
     walked(file, &mut marks, &mut doubts)
 }
 
-// A file's reply and its type. A small file has a small table, which is sooner empty.
+// A file's reply and its type. A small file has a small table, which is sooner empty. It stays apart from those that call it, which
+// would else have the marks on the stack as long as they run.
+#[inline(never)]
 pub fn examined(file: &[u8]) -> Checked
     ensures { result ≡ examined file.now }
 {

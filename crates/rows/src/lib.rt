@@ -1,4 +1,6 @@
 // A row: a record as ten numbers, its kind and then the fields of its line; in a lent slice its line's number stands behind them. Its columns and kinds by name, and what is read off it.
+#![tactic(auto)]
+
 ghost use Rattle.std.specs.Prelude.{◌≡◌};
 ghost use Rattle.basics.specs.Integers.{eq_z};
 ghost use Rattle.law.specs.Records.{is_library};
@@ -56,7 +58,7 @@ pub const REFERENCE: usize = 5;
 pub const REFERENCE_LEN: usize = 6;
 
 // A point line: its loop's label, its place, its included angle.
-#[derive(Drop)]
+#[derive(Clone, Copy)]
 pub struct Point {
     pub label: i64,
     pub x: Length,

@@ -1,4 +1,6 @@
 // What a text may name at its field, and what its bytes mean there.
+#![tactic(auto)]
+
 ghost use Rattle.std.specs.Prelude.{◌≡◌};
 ghost use Rattle.law.specs.Words.{named, is_in, folded, same_bytes};
 ghost use Rattle.law.specs.Fits.{is_name, meaning};

@@ -1,4 +1,6 @@
 // Texts of files as rows name them, each by its start and length, and what they name; what lies past a file's end is left off.
+#![tactic(auto)]
+
 ghost use Rattle.std.specs.Prelude.{◌≡◌, min};
 ghost use Rattle.names_slots.specs.Hashes.{hashed};
 ghost use Rattle.rows_texts.specs.Texts.{text_at, text_is, same_meanings, same_texts};

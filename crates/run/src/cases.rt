@@ -12,7 +12,7 @@ pub const HEADER: usize = 64;
 pub type Room = [u8; 65_536];
 
 // How a case went; `Over` where standard input holds no further case.
-#[derive(Drop)]
+#[derive(Clone, Copy)]
 pub enum Went {
     Well,
     Badly,
@@ -106,7 +106,7 @@ pub fn say_name(head: &[u8; HEADER], width: usize) {
 
 // How many cases were run, and how many of them went badly. `left` is how many may follow: nothing says that standard input
 // ends, so it is counted down from a number that no run uses up. It is 0 once there is no further case.
-#[derive(Drop)]
+#[derive(Clone, Copy)]
 pub struct Totals {
     pub left: u64,
     cases: u64,

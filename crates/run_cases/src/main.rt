@@ -13,6 +13,8 @@
 //
 // A column of a number holds decimal digits, with spaces before them. A reply of 0 to `read` is followed by its rows, any reply
 // to `read` by `untouched` if every lent number that no row took is as it was. What is no case ends the run.
+#![tactic(auto)]
+
 mod printed;
 
 use law::Reply;

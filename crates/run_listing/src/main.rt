@@ -1,4 +1,6 @@
 // The canonical printer: prints the canonical text of the file on standard input, or number, line and count of its refusal.
+#![tactic(auto)]
+
 use law::Reply;
 use rows::{STRIDE, capacity};
 use run::{lent, saying};

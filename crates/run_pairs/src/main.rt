@@ -15,6 +15,8 @@
 //
 // A column of a number holds decimal digits, with spaces before them. A line has the case's name, the verdict that came and the
 // one expected, each as number, line, count and which, and ` DIFFERS` unless they are the same. What is no case ends the run.
+#![tactic(auto)]
+
 use law::Verdict;
 use run::cases::{HEADER, Totals, Went};
 use run::{cases, columns, saying};

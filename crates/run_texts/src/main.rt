@@ -24,6 +24,8 @@
 //
 // A column of a number holds decimal digits, with spaces before them. A reply of 0 is followed by its text, any reply by
 // `untouched` if every lent byte that no text took is as it was. What is no case ends the run.
+#![tactic(auto)]
+
 mod edits;
 
 use law::Reply;

@@ -23,6 +23,8 @@
 // A column of a number holds decimal digits, with spaces before them, or `m` and spaces for the largest number that there is. Each
 // call goes on from the place where the one before it came. A reply of 0 is followed by a line for each field: start, length, bytes.
 // What is no case ends the run.
+#![tactic(auto)]
+
 mod fields;
 mod steps;
 
@@ -34,7 +36,7 @@ use viewer::Step;
 const CALL: usize = 28;
 
 // The place and the line where the reader stands, and whether each call up to there went as expected.
-#[derive(Drop)]
+#[derive(Clone, Copy)]
 struct Stand {
     at: usize,
     line: u64,

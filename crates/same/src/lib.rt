@@ -1,4 +1,6 @@
 // Comparing: whether two files say the same list of records.
+#![tactic(auto)]
+
 pub mod lists;
 pub mod records;
 
@@ -14,7 +16,7 @@ pub const FIELDS: usize = 7;
 
 // The fields that a comparison leaves out: of the records of a kind, each by its place from 0. Document 01 leaves out none; W-210
 // will.
-#[derive(Drop)]
+#[derive(Clone, Copy)]
 pub struct Ignored {
     pub kind: u64,
     pub fields: [bool; FIELDS],

@@ -21,7 +21,7 @@ use Rattle.law.specs.declared.FieldType.{FieldType}
 use Rattle.basics.proofs.Meanings.{plain_meaning}
 use Rattle.law.specs.declared.FieldType.TheVariants.{Text as T}
 use Rattle.law.specs.Rows.{Means, none, a_number, a_text, Holds}
-use Rattle.law.specs.Records.{Named, names_aComponent, name_in}
+use Rattle.law.specs.Records.{Named, names_a_component, name_in}
 use Rattle.order.specs.Automaton.{same_name}
 use Rattle.walk.specs.Walks.{Trace, trace_of}
 use Rattle.rows_texts.specs.Texts.{text_is, same_texts}
@@ -40,7 +40,7 @@ kind_is file k ts x vs h n = rw h.is
 
 -- Entries: a row of kind k with the names of a placement
 
-module _ (board library : List ℕ) (x : List ℤ) (k : ℕ) (c : names_aComponent Idf3 k ≡ true) where
+module _ (board library : List ℕ) (x : List ℤ) (k : ℕ) (c : names_a_component Idf3 k ≡ true) where
   entry_said : {qs : List Rec} {t : Trace} → Holding library qs t → entry_in board library (pos k) x t ≡ has_entry_of k (name_at board x) qs
   unfolding entry_in same_names same_texts text_is
   entry_said done = refl
@@ -50,7 +50,7 @@ module _ (board library : List ℕ) (x : List ℤ) (k : ℕ) (c : names_aCompone
       go : (b : Bool) → eqb q.kind k ≡ b
           → (b && same_name (name_at library y) (name_at board x) || has_entry_of k (name_at board x) qs) ≡ (b && same_name (name_in q) (name_at board x) || has_entry_of k (name_at board x) qs)
       go true e =
-          let n : names_aComponent Idf3 q.kind ≡ true = rw (eqb-true q.kind k e) c in
+          let n : names_a_component Idf3 q.kind ≡ true = rw (eqb-true q.kind k e) c in
           ap (λ (a : Named). same_name a (name_at board x) || has_entry_of k (name_at board x) qs) (name_in_lem library Idf3 q.kind y q.values h n)
       go false e = refl
 
@@ -77,7 +77,7 @@ placement_held file k x vs e h =
 
 module _ (board library : List ℕ) (qs : List Rec) (u : Holding library qs (trace_of library)) where
   lacks_said : (x : List ℤ) → lacks_entry board library x ≡ lacks_in qs (placement_at board x)
-  unfolding lacks_entry refers text_is has_entry names_aComponent
+  unfolding lacks_entry refers text_is has_entry names_a_component
   lacks_said x = rw (entry_said board library x 151 refl u, entry_said board library x 141 refl u)
 
   pub placed_said : {rs : List Rec} {t : Trace} → Holding board rs t → (n : ℕ) → placed_from board library n t ≡ placed_behind qs n (placements_of rs)

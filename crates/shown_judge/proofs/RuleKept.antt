@@ -52,6 +52,7 @@ entry_sound k a (q ∷ qs) h = go (eqb q.kind k && same_name (name_in q) a) refl
 entry_complete : (k : ℕ) (a : Named) (qs : List Rec) → Entry k a qs → has_entry_of k a qs ≡ true
 entry_complete k a (q ∷ qs) (this e n) = rw (eq-eqb q.kind k e, name_same (name_in q) a n)
 entry_complete k a (q ∷ qs) (later r) = rw (entry_complete k a qs r) (or-true (eqb q.kind k && same_name (name_in q) a))
+entry_complete k a [] x' = elim x' [ ]
 
 -- no placement has both references
 two_words : {s : List ℕ} → s ≡ board_word → s ≡ no_reference → ⊥

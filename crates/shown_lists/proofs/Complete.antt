@@ -72,11 +72,11 @@ module _ (v : Rules) where
     body_leads {c} (led {a} {ps} {qs} f k p q) e =
         let w = points_lead v g s p in
         let y : Leads v (inside g s (in_points no_point)) ((ps ++ qs) ++ (c ∷ [])) (between (after g s)) =
-        rw append_assoc (leads_append v w.is-led (ends_lead w.stop w.is-complete q e)) in
+        rw append_assoc (leads_append v w.is_led (ends_lead w.stop w.is_complete q e)) in
         from await_lead (starts_led (shape_of v s) f) (step (in_step v g await_lead k) y)
     body_leads (points f p) e =
         let w = points_lead v g s p in
-        from (in_points no_point) (ap start_of f) (leads_append v w.is-led (ends_lead w.stop w.is-complete no_line e))
+        from (in_points no_point) (ap start_of f) (leads_append v w.is_led (ends_lead w.stop w.is_complete no_line e))
     body_leads (listed f k) e = from in_list (ap start_of f) (leads_append v (entries_lead k) (step (in_step v g in_list e) here))
     body_leads (placed f k) e = from await_part (ap start_of f) (leads_append v (pairs_lead k) (step (in_step v g await_part e) here))
 

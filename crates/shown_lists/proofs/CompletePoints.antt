@@ -48,11 +48,11 @@ module _ (v : Rules) where
   module _ {s : ℕ} {r : Rec} (g : Stage) where
     pub open_step : Line v (file_of g) s opening r → may_open v g s ≡ true → advance v (between g) r ≡ next (inside g s (start_of (shape_of v s)))
     unfolding advance
-    open_step l m = rw (l.has-role, l.is-good, l.in-section, m)
+    open_step l m = rw (l.has_role, l.is_good, l.in_section, m)
 
     pub in_step : {a : Role} (p : Phase) → Line v (file_of g) s a r → advance v (inside g s p) r ≡ at_phase g s p a true r
     unfolding advance
-    in_step p l = rw (l.in-section, l.has-role, l.is-good, eqb_self s)
+    in_step p l = rw (l.in_section, l.has_role, l.is_good, eqb_self s)
 
     pub point_step : (l m : LoopState) → Line v (file_of g) s point r → loop_after (many_loops s) l (point_of r) ≡ some m
         → advance v (inside g s (in_points l)) r ≡ next (inside g s (in_points m))
@@ -153,14 +153,14 @@ module _ (v : Rules) where
         → Filled l rs
     loops_lead l m b (final k) =
         let w = loop_leads l b k in
-        record { stop = w.stop; is_complete = done_complete w.is-done; is_led = w.is-led }
+        record { stop = w.stop; is_complete = done_complete w.is_done; is_led = w.is_led }
     loops_lead l m b (another {label} k rest) =
         let w = loop_leads l b k in
-        let y = loops_lead w.stop m (subst (λ (x : Bool). Begins x w.stop (suc_ℤ label)) (sym m) (begins_next w.is-done)) rest in
-        record { stop = y.stop; is_complete = y.is_complete; is_led = leads_append w.is-led y.is_led }
+        let y = loops_lead w.stop m (subst (λ (x : Bool). Begins x w.stop (suc_ℤ label)) (sym m) (begins_next w.is_done)) rest in
+        record { stop = y.stop; is_complete = y.is_complete; is_led = leads_append w.is_led y.is_led }
 
     pub points_lead : {rs : List Rec} → Points v (file_of g) s rs → Filled no_point rs
     points_lead (numbered m k) = loops_lead no_point m (subst (λ (x : Bool). Begins x no_point (pos 0)) (sym m) begins_many) k
     points_lead (single {label} m e k) =
         let w = loop_leads no_point (subst (λ (x : Bool). Begins x no_point label) (sym m) (begins_one label e)) k in
-        record { stop = w.stop; is_complete = done_complete w.is-done; is_led = w.is-led }
+        record { stop = w.stop; is_complete = done_complete w.is_done; is_led = w.is_led }

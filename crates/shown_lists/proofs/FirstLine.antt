@@ -11,7 +11,7 @@ use Rattle.law.specs.Files.{titled}
 use Rattle.basics.proofs.Bools.{not_both}
 use Rattle.law.specs.Values.{Rec}
 use Rattle.law.specs.declared.Rules.{Rules}
-use Rattle.law.specs.Records.{Named, names_aComponent, name_in}
+use Rattle.law.specs.Records.{Named, names_a_component, name_in}
 use Rattle.order.specs.Automaton.{start, advance, accepting, accepted, accepts, is_among, repeats, noted, unless, admit, Ran, through, stopped, later, onward, run, type_at}
 use Rattle.order.specs.declared.State.{State}
 use Rattle.order.specs.declared.Reason.{Reason}
@@ -41,7 +41,7 @@ module _ (v : Rules) where
 
   pub unused_on : (used : List Named) (r : Rec) (rs : List Rec) → repeats v used r ≡ false → Unused (noted v used r) (names_of v rs)
       → Unused used (names_of v (r ∷ rs))
-  unused_on used r rs = go (names_aComponent v r.kind)
+  unused_on used r rs = go (names_a_component v r.kind)
     where
       go : (b : Bool) → (b && is_among (name_in r) used) ≡ false → Unused (cond b (name_in r ∷ used) used) (names_of v rs)
           → Unused used (cond b (name_in r ∷ names_of v rs) (names_of v rs))
@@ -69,7 +69,7 @@ module _ (v : Rules) where
 
   pub unused_back : (used : List Named) (r : Rec) (rs : List Rec) → Unused used (names_of v (r ∷ rs))
       → (repeats v used r ≡ false) × Unused (noted v used r) (names_of v rs)
-  unused_back used r rs = go (names_aComponent v r.kind)
+  unused_back used r rs = go (names_a_component v r.kind)
     where
       go : (b : Bool) → Unused used (cond b (name_in r ∷ names_of v rs) (names_of v rs))
           → ((b && is_among (name_in r) used) ≡ false) × Unused (cond b (name_in r ∷ used) used) (names_of v rs)

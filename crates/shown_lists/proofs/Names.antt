@@ -13,7 +13,7 @@ use Rattle.law.specs.Values.{Rec}
 use Rattle.law.specs.Words.{same_bytes}
 use Rattle.law.specs.Fits.{text_byte}
 use Rattle.law.specs.declared.Rules.{Rules}
-use Rattle.law.specs.Records.{Named, names_aComponent, name_in}
+use Rattle.law.specs.Records.{Named, names_a_component, name_in}
 use Rattle.order.specs.Automaton.{same_name, is_among}
 use Rattle.law.specs.Lists.{names_of, NotAmong, in_none, nor, AllDiffer, nothing_named, and_new}
 
@@ -117,7 +117,7 @@ new_last m b h (and_new {a} {bs} n d) = and_new (not_last differs n) (new_last m
 module _ (v : Rules) where
   pub names_append : (rs ms : List Rec) → names_of v (rs ++ ms) ≡ names_of v rs ++ names_of v ms
   names_append [] ms = refl
-  names_append (r ∷ rs) ms = go (names_aComponent v r.kind) (names_append rs ms)
+  names_append (r ∷ rs) ms = go (names_a_component v r.kind) (names_append rs ms)
     where
       go : (b : Bool) → names_of v (rs ++ ms) ≡ names_of v rs ++ names_of v ms
           → cond b (name_in r ∷ names_of v (rs ++ ms)) (names_of v (rs ++ ms)) ≡ cond b (name_in r ∷ names_of v rs) (names_of v rs) ++ names_of v ms

@@ -28,7 +28,7 @@ use Rattle.law.specs.declared.Limit.TheVariants.{Length, NotBelow, Above, Includ
 use Rattle.law.specs.declared.Texts.TheVariants.{Plain, Reference, Hole}
 use Rattle.law.specs.declared.FieldType.{FieldType}
 use Rattle.law.specs.declared.FieldType.TheVariants.{Text, Date, Integer, Number, Word}
-use Rattle.law.specs.Records.{shape_of, Place, label_of, place_of, angle_of, names_aComponent}
+use Rattle.law.specs.Records.{shape_of, Place, label_of, place_of, angle_of, names_a_component}
 use Rattle.order.specs.Places.{point_line}
 use Rattle.order.specs.Automaton.{is_role}
 use Rattle.law.specs.Lists.{Line}
@@ -88,11 +88,11 @@ module _ (v : Rules) where
   -- a well_formed_lem record by the layout of its kind
   laid_fits : (t : FileType) (r : Rec) (l : Laid v r.kind) → fits_all (under v t) l.layout.types r.values ≡ true → WellFormed (under v t) r
   unfolding well_formed
-  laid_fits t r l h = rw l.is-layout h
+  laid_fits t r l h = rw l.is_layout h
 
   fits_laid : (t : FileType) (r : Rec) (l : Laid v r.kind) → WellFormed (under v t) r → fits_all (under v t) l.layout.types r.values ≡ true
   unfolding well_formed
-  fits_laid t r l h = rw l.is-layout at h
+  fits_laid t r l h = rw l.is_layout at h
 
   -- a line whose fields do not depend on the file's type
   pub retype : {t : FileType} {s : ℕ} {a : Role} {r : Rec} (u : FileType) → is_role a unknown ≡ false → is_role a part ≡ false → Line v t s a r
@@ -138,7 +138,7 @@ module _ (v : Rules) where
     unfolding types_of
     sample_line t s a k u i h =
         let l = laid v k (rw h u) in
-        record { in_section = i; has_role = h; is_good = laid_fits t (sample w k) l (rw l.is-layout (samples_fit t l.layout.types)) }
+        record { in_section = i; has_role = h; is_good = laid_fits t (sample w k) l (rw l.is_layout (samples_fit t l.layout.types)) }
 
   point_fits : (l : List FieldType) → pointable v l ≡ true → (length_second l ≡ true) × (fits_all (under v library) l origin ≡ true)
   point_fits l h = both (length_second l) (fits_all (under v library) l origin) h
@@ -202,9 +202,9 @@ module _ (v : Rules) where
       go false e = shifted_to (pos 0) k refl (eq_z_false _ _ e)
 
   -- only the leading line of a component names one
-  pub no_name : {t : FileType} {s : ℕ} {a : Role} {r : Rec} → is_role a lead ≡ false → Line v t s a r → names_aComponent v r.kind ≡ false
-  no_name {a = a} {r} e k = go (names_aComponent v r.kind) refl
+  pub no_name : {t : FileType} {s : ℕ} {a : Role} {r : Rec} → is_role a lead ≡ false → Line v t s a r → names_a_component v r.kind ≡ false
+  no_name {a = a} {r} e k = go (names_a_component v r.kind) refl
     where
-      go : (b : Bool) → names_aComponent v r.kind ≡ b → b ≡ false
+      go : (b : Bool) → names_a_component v r.kind ≡ b → b ≡ false
       go false h = refl
       go true h = let z : a ≡ lead = sym k.has_role ∙ named_lead v r.kind h in subst (λ (x : Role). is_role x lead ≡ false) z e

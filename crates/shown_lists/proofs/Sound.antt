@@ -2,7 +2,6 @@
 use Prim.Native.Nat.{ℕ, ◌+◌, ◌≤◌}
 use mathlib.Core.Path.{◌≡◌, refl, sym, ap, subst}
 use mathlib.Core.List.{List, [], ◌∷◌, ◌++◌, append_assoc, append-nil}
-use mathlib.Core.Option.{none}
 use mathlib.Core.Bool.{Bool, true, false, cond, not, ◌&&◌, ◌||◌, false≢true}
 use native.Mathlib.Omega.{arith}
 use lib.Dec.{eqb}
@@ -125,9 +124,15 @@ module _ (v : Rules) where
   header_by panel e o a (rest_name b (rest_full c (onto_panel os ss m ps))) =
       a_panel (header_of refl (retype v panel refl refl o) (retype v panel refl refl a) e (retype v panel refl refl b) (retype v panel refl refl c)) os ss m ps
   header_by library e o a (rest_full c (onto_library ss m)) = a_library (header_of_library o a e c) ss m
+  header_by board e o a (rest_body {c = c} {bs = bs} {ms = ms} x20 _ _) = elim x20 [ ]
+  header_by board e o a (rest_name b (rest_body {c = c} {bs = bs} {ms = ms} x29 _ _)) = elim x29 [ ]
+  header_by panel e o a (rest_body {c = c} {bs = bs} {ms = ms} x21 _ _) = elim x21 [ ]
+  header_by panel e o a (rest_name b (rest_body {c = c} {bs = bs} {ms = ms} x30 _ _)) = elim x30 [ ]
+  header_by library e o a (rest_body {c = c} {bs = bs} {ms = ms} x22 _ _) = elim x22 [ ]
 
   header_before : {o : Rec} {ms : List Rec} → Line v library 1 opening o → Rest v (inside nothing 1 await_title) ms → Permitted v (o ∷ ms)
   header_before o (rest_title {a = a} k w) = header_by (type_in a) refl o k w
+  header_before o (rest_body {c = c} {bs = bs} {ms = ms} x14 _ _) = elim x14 [ ]
 
   module _ {r : Rec} {ms : List Rec} where
     start_before : {s : ℕ} → s ≡ 1 → Line v library s opening r → Rest v (inside nothing s (start_of (shape_of v s))) ms → Permitted v (r ∷ ms)

@@ -29,7 +29,7 @@ use Rattle.law.specs.declared.Limit.TheVariants.{Length, Version}
 use Rattle.law.specs.declared.FieldType.{FieldType}
 use Rattle.law.specs.declared.Texts.TheVariants.{Plain}
 use Rattle.law.specs.declared.FieldType.TheVariants.{Text, Number, Word}
-use Rattle.law.specs.Records.{shape_by, shape_of, is_middle, names_aComponent}
+use Rattle.law.specs.Records.{shape_by, shape_of, is_middle, names_a_component}
 use Rattle.order.specs.Automaton.{is_role}
 use Rattle.law.specs.Lists.{leads}
 use Rattle.shown_lists.proofs.Roles.{is_some, is_section, is_header, role_known, role_by_lem}
@@ -109,18 +109,18 @@ kind_of_lem Idf3 k h = go (leb k last_kind) refl (role_known Idf3 k h)
     go false e i = absurd (false≢true i)
 
 -- only the leading line of a component names one
-pub named_lead : (v : Rules) (k : ℕ) → names_aComponent v k ≡ true → role_of v k ≡ lead
-unfolding names_aComponent role_of section_of line_of sections
+pub named_lead : (v : Rules) (k : ℕ) → names_a_component v k ≡ true → role_of v k ≡ lead
+unfolding names_a_component role_of section_of line_of sections
 named_lead Idf3 k h = ⊎_elim (λ e. rw (eqb-true k 141 e)) (λ e. rw (eqb-true k 151 e)) (either (eqb k 141) (eqb k 151) h)
 
 -- its first two fields are texts, geometry and part
-pub component_fields : (v : Rules) (k : ℕ) → names_aComponent v k ≡ true → (rest : List FieldType) × (types_of v k ≡ Text Plain ∷ Text Plain ∷ rest)
-unfolding names_aComponent types_of layout_of section_of line_of sections
+pub component_fields : (v : Rules) (k : ℕ) → names_a_component v k ≡ true → (rest : List FieldType) × (types_of v k ≡ Text Plain ∷ Text Plain ∷ rest)
+unfolding names_a_component types_of layout_of section_of line_of sections
 component_fields Idf3 k h =
     (Word Units ∷ Number Length ∷ [], ⊎_elim (λ e. rw (eqb-true k 141 e)) (λ e. rw (eqb-true k 151 e)) (either (eqb k 141) (eqb k 151) h))
 
-pub outlines_name_none : (v : Rules) → (names_aComponent v (kind_at v 2 1) ≡ false) × (names_aComponent v (kind_at v 3 1) ≡ false)
-unfolding names_aComponent kind_at
+pub outlines_name_none : (v : Rules) → (names_a_component v (kind_at v 2 1) ≡ false) × (names_a_component v (kind_at v 3 1) ≡ false)
+unfolding names_a_component kind_at
 outlines_name_none Idf3 = (refl, refl)
 
 -- every list of words has a first

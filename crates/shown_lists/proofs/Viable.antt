@@ -17,7 +17,7 @@ use Rattle.law.specs.Fits.{text_byte}
 use Rattle.law.specs.declared.Rules.{Rules}
 use Rattle.law.specs.declared.FileType.{FileType}
 use Rattle.law.specs.declared.FileType.TheVariants.{Board as board, Panel as panel, Library as library}
-use Rattle.law.specs.Records.{shape_of, many_loops, label_of, place_of, angle_of, type_in, names_aComponent, name_in}
+use Rattle.law.specs.Records.{shape_of, many_loops, label_of, place_of, angle_of, type_in, names_a_component, name_in}
 use Rattle.order.specs.Marks.{point_of}
 use Rattle.law.specs.Limits.{whole_turn}
 use Rattle.order_loops.specs.Loops.{reached, loop_after, complete}
@@ -50,7 +50,7 @@ module _ (v : Rules) where
     pub ends : accepts v st rest ≡ true
     pub nameless : names_of v rest ≡ []
 
-  quiet_step : {st mid : State} (r : Rec) → advance v st r ≡ next mid → names_aComponent v r.kind ≡ false → Quiet mid → Quiet st
+  quiet_step : {st mid : State} (r : Rec) → advance v st r ≡ next mid → names_a_component v r.kind ≡ false → Quiet mid → Quiet st
   quiet_step r e n q = record { rest = r ∷ q.rest; ends = rw e q.ends; nameless = rw n q.nameless }
 
   flat_not_full : (z : ℤ) → z ≡ pos 0 → z ≢ whole_turn
@@ -130,7 +130,7 @@ module _ (v : Rules) where
           quiet_step _ (in_step v g await_position k) (no_name v refl k) quiet_part
 
       -- a section that is not a component
-      quiet_lead : leads (shape_of v s) ≡ true → names_aComponent v (kind_at v s 1) ≡ false → Quiet (inside g s await_lead)
+      quiet_lead : leads (shape_of v s) ≡ true → names_a_component v (kind_at v s 1) ≡ false → Quiet (inside g s await_lead)
       quiet_lead h n =
           let k = line_of (file_of g) s 1 lead i refl (omega arith) (lead_first (shape_of v s) h) in
           quiet_step _ (in_step v g await_lead k) n (quiet_none (led_points (shape_of v s) h))
@@ -151,7 +151,7 @@ module _ (v : Rules) where
         quiet_open (middle t h n) 13 i refl (rw (placement_shape v) (quiet_part (middle t h n) 13 i (quiet_end (finished t) refl)))
 
     quiet_outline : (t : FileType) (s : ℕ) → is_section v s ≡ true → may_open v (headed t) s ≡ true → leads (shape_of v s) ≡ true
-        → names_aComponent v (kind_at v s 1) ≡ false → Quiet (between (after (headed t) s)) → Quiet (between (headed t))
+        → names_a_component v (kind_at v s 1) ≡ false → Quiet (between (after (headed t) s)) → Quiet (between (headed t))
     quiet_outline t s i m l n q = quiet_open (headed t) s i m (rw (starts_led (shape_of v s) l) (quiet_lead (headed t) s i q l n))
 
     quiet_headed : (t : FileType) → Quiet (between (headed t))
@@ -192,11 +192,11 @@ module _ (v : Rules) where
       quietly : Quiet st → Ending st
       with_one : (rs : List Rec) → accepts v st rs ≡ true → names_of v rs ≡ record { geometry = w; number = w } ∷ [] → Ending st
 
-    sample_name : (k : ℕ) → names_aComponent v k ≡ true → name_in (sample v w k) ≡ record { geometry = w; number = w }
+    sample_name : (k : ℕ) → names_a_component v k ≡ true → name_in (sample v w k) ≡ record { geometry = w; number = w }
     sample_name k h = rw (component_fields v k h).1
 
     lead_ends : (g : Stage) (s : ℕ) → is_section v s ≡ true → leads (shape_of v s) ≡ true → Ending (inside g s await_lead)
-    lead_ends g s i h = go (names_aComponent v (kind_at v s 1)) refl
+    lead_ends g s i h = go (names_a_component v (kind_at v s 1)) refl
       where
         q : Quiet (inside g s (in_points no_point))
         q = quiet_none g s i (quiet_between (after g s)) (led_points (shape_of v s) h)
@@ -204,7 +204,7 @@ module _ (v : Rules) where
         k : Line v (file_of g) s lead (sample v w (kind_at v s 1))
         k = line_of (file_of g) s 1 lead i refl (omega arith) (lead_first (shape_of v s) h)
 
-        go : (b : Bool) → names_aComponent v (kind_at v s 1) ≡ b → Ending (inside g s await_lead)
+        go : (b : Bool) → names_a_component v (kind_at v s 1) ≡ b → Ending (inside g s await_lead)
         go false n = quietly (quiet_step _ (in_step v g await_lead k) n q)
         go true n = with_one (sample v w (kind_at v s 1) ∷ q.rest) (rw (in_step v g await_lead k) q.ends) (rw (n, q.nameless, sample_name (kind_at v s 1) n))
 

@@ -32,7 +32,7 @@ use Rattle.walk.proofs.WalkLaws.{trace_end, trace_step}
 use Rattle.read.specs.Replies.{rows_in, rows_of}
 use Rattle.shown_told.specs.Told.{Said, nothing, says, wrong, line_says, Told, ended, broken, after_nothing, after_record, go_on, told_from}
 use Rattle.law.specs.Files.{titled, FileSays}
-use Rattle.shown_told.proofs.LineSound.{line_sound, line-nothing}
+use Rattle.shown_told.proofs.LineSound.{line_sound, line_nothing}
 use Rattle.shown_read.proofs.LineJoined.{Joined, line_joined}
 use Rattle.shown_read.proofs.LineUsed.{line_used}
 use Rattle.shown_told.proofs.WholeFiles.{accepted_exactly}
@@ -71,7 +71,7 @@ module _ (file : List ℕ) where
       rw (p.found, line_used Idf3 used st l, e) (go (told_from Idf3 used st ls) (subst (λ (u : State). ToldAt (place_behind file b l) (k + 1) ls (rows_in t) (told_from Idf3 used u ls)) p.state (ih used)))
     where
       go : (y : Told) → ToldAt (place_behind file b l) (k + 1) ls (rows_in t) y → ToldAt b k (l ∷ ls) (rows_in t) (after_nothing y)
-      go (ended rs en) m = free (line-nothing Idf3 [] st l e).2 m
+      go (ended rs en) m = free (line_nothing Idf3 [] st l e).2 m
       go (broken i n) m = tt
   one st l ls used b k j t (says r u) e p q ih =
       rw (p.found, line_used Idf3 used st l, e) (by (repeats Idf3 used r))

@@ -7,7 +7,6 @@ use mathlib.Core.Bool.{true, false}
 use native.Mathlib.Nat.{not-suc-le-zero}
 use native.Mathlib.Omega.{arith}
 use lib.ListN.{length, take, drop, length-append}
-use Rattle.law.specs.Bytes as sp
 use Rattle.law.specs.Fields.{Field, field, Spelled}
 use Rattle.text_fields.specs.FirstField.{span, ends_well, field_at, field_of}
 use Rattle.text_fields.specs.Fields.{fields_of}
@@ -76,7 +75,7 @@ pub spots_in_lem : {b : ℕ} {ps : List Spot} {s : List ℕ} → SpelledAt b ps 
 unfolding spots_in field_of field_at span ends_well
 spots_in_lem r zero h = absurd (not-suc-le-zero h)
 spots_in_lem end (suc fuel) h = refl
-spots_in_lem (space {b = b} {s = s} r) (suc fuel) h = rw (shift_of s) (shift_by (field_of s) b s (spots_in fuel) ∙ spots_in_lem r (suc fuel) (omega arith))
+spots_in_lem (space {b = b} {ps = ps} {s = s} r) (suc fuel) h = rw (shift_of s) (shift_by (field_of s) b s (spots_in fuel) ∙ spots_in_lem {b = b + 1} {ps = ps} {s = s} r (suc fuel) (omega arith))
 spots_in_lem (last {b = b} {s = s} p) (suc fuel) h =
     let k = some_spells p in
     let e = read_step b s [] fuel (read [] p refl) (spots_in_lem (end {b = b + length s}) fuel (omega arith)) in

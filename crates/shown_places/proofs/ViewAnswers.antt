@@ -1,6 +1,6 @@
 -- What a call of the line reader answers, and what it leaves, is what the rules show; and they show one answer.
 use Prim.Native.Nat.{ℕ, ◌*◌, ◌≤◌, ◌<◌}
-use mathlib.Core.Path.{◌≡◌, refl, sym, ap, ◌∙◌}
+use mathlib.Core.Path.{◌≡◌, refl, sym, ◌∙◌}
 use mathlib.Core.List.{List, [], ◌∷◌}
 use mathlib.Core.Option.{Option, none, some}
 use mathlib.Core.Bool.{Bool, true, false, cond, false≢true}
@@ -121,13 +121,13 @@ module _ (file : List ℕ) (at n : ℕ) (old : List ℤ) where
     fields_view b a none e = view (no_fields h f b a (λ fs p. none_some (sym e ∙ fields_complete line fs p)))
     fields_view b a (some fs) e = handed_view (fields b a (places_found at line fs e).spelled)
 
-    bytes-view : begins 35 line ≡ false → (t : Bool) → all_of permitted line ≡ t → View
-    bytes-view b true e = fields_view b (all_sound permitted line e) (fields_of line) refl
-    bytes-view b false e = view (not_permitted h f b (λ a. false≢true (sym e ∙ all_complete permitted a)))
+    bytes_view : begins 35 line ≡ false → (t : Bool) → all_of permitted line ≡ t → View
+    bytes_view b true e = fields_view b (all_sound permitted line e) (fields_of line) refl
+    bytes_view b false e = view (not_permitted h f b (λ a. false≢true (sym e ∙ all_complete permitted a)))
 
     line_view : (t : Bool) → begins 35 line ≡ t → View
     line_view true e = handed_view (comment e)
-    line_view false e = bytes-view e (all_of permitted line) refl
+    line_view false e = bytes_view e (all_of permitted line) refl
 
   pub some_view : View
   some_view = elim (dec_lt limit (length file)) [

@@ -14,7 +14,7 @@ use Rattle.law.specs.Values.{Rec}
 use Rattle.law.specs.Layouts.{types_of}
 use Rattle.law.specs.declared.Rules.TheVariants.{Idf3}
 use Rattle.law.specs.Rows.{Holds}
-use Rattle.law.specs.Records.{Named, names_aComponent, name_in}
+use Rattle.law.specs.Records.{Named, names_a_component, name_in}
 use Rattle.order.specs.Automaton.{start, accepting, is_among, repeats, noted}
 use Rattle.order.specs.declared.State.{State}
 use Rattle.law.specs.Answers.{limit, reply}
@@ -63,16 +63,16 @@ from_start (broken i m) n = let e : 1 + i ≡ i + 1 = omega arith in rw e
 -- A row and its record name the same component
 module _ (file : List ℕ) (used : List Named) (r : Rec) (x : List ℤ) (h : Holds file r.kind (types_of Idf3 r.kind) x r.values) where
   row_repeats : (leads_component x && is_among (name_at file x) used) ≡ repeats Idf3 used r
-  row_repeats = rw (names_is file Idf3 r.kind x r.values h) (go (names_aComponent Idf3 r.kind) refl)
+  row_repeats = rw (names_is file Idf3 r.kind x r.values h) (go (names_a_component Idf3 r.kind) refl)
     where
-      go : (b : Bool) → names_aComponent Idf3 r.kind ≡ b → (b && is_among (name_at file x) used) ≡ (b && is_among (name_in r) used)
+      go : (b : Bool) → names_a_component Idf3 r.kind ≡ b → (b && is_among (name_at file x) used) ≡ (b && is_among (name_in r) used)
       go true e = ap (λ (a : Named). is_among a used) (name_in_lem file Idf3 r.kind x r.values h e)
       go false e = refl
 
   row_noted : cond (leads_component x) (name_at file x ∷ used) used ≡ noted Idf3 used r
-  row_noted = rw (names_is file Idf3 r.kind x r.values h) (go (names_aComponent Idf3 r.kind) refl)
+  row_noted = rw (names_is file Idf3 r.kind x r.values h) (go (names_a_component Idf3 r.kind) refl)
     where
-      go : (b : Bool) → names_aComponent Idf3 r.kind ≡ b → cond b (name_at file x ∷ used) used ≡ cond b (name_in r ∷ used) used
+      go : (b : Bool) → names_a_component Idf3 r.kind ≡ b → cond b (name_at file x ∷ used) used ≡ cond b (name_in r ∷ used) used
       go true e = ap (λ (a : Named). a ∷ used) (name_in_lem file Idf3 r.kind x r.values h e)
       go false e = refl
 

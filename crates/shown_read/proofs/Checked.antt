@@ -57,7 +57,7 @@ module _ (file : List ℕ) where
     answered_ended : (rs : List Rec) (st : State) (b : Bool) → accepting st ≡ b → told_from Idf3 [] start (lines_of file) ≡ ended rs st
         → Answered file (cond b (reply 0 0 (length rs)) (reply 13 (length (lines_of file) + 1) 0))
     answered_ended rs st true a e = accepted h ((accepted_exactly Idf3 file rs).0 (st, e, a))
-    answered_ended rs st false a e = goal.too-early h (lines_sound file) (too_early Idf3 file rs st e a)
+    answered_ended rs st false a e = goal.too_early h (lines_sound file) (too_early Idf3 file rs st e a)
 
     answered : (x : Told) → told_from Idf3 [] start (lines_of file) ≡ x → Answered file (reply_of x (length (lines_of file)))
     answered (ended rs st) e = answered_ended rs st (accepting st) refl e
@@ -86,21 +86,21 @@ module _ (file : List ℕ) where
   only_early h (refused ls l more {n} i m f) w =
       let g : Mendable Idf3 (ls ++ (l ∷ more)) = rw (lines_complete m) at w.0 in
       absurd (((fails_faulty Idf3 ls more l m).1 (n, f)).2 (mendable_front Idf3 (length ls + 1) (ls ++ (l ∷ more)) g))
-  only_early h (goal.too-early i m s) w = rw (lines_complete m) refl
+  only_early h (goal.too_early i m s) w = rw (lines_complete m) refl
 
   -- and nothing else is
   pub check_only : {r : Reply} → Answered file r → r ≡ check_reply file
   check_only (accepted h s) = sym (check_count h s)
   check_only (too_large h) = sym (check_large h)
   check_only (refused ls l more {n} h m f) = sym (check_told file h ∙ rw (lines_complete m, (told_faulty Idf3 l more ls n).1 f))
-  check_only (goal.too-early h m s) = rw (sym (lines_complete m)) (sym (only_early h check_answers (rw (lines_complete m) s)))
+  check_only (goal.too_early h m s) = rw (sym (lines_complete m)) (sym (only_early h check_answers (rw (lines_complete m) s)))
 
   -- a file is accepted exactly if it says a list
   number_zero : {x : Reply} → Answered file x → x.number ≡ 0 → (rs : List Rec) × FileSays Idf3 rs file
   number_zero (accepted {rs} h s) z = (rs, s)
   number_zero (too_large h) z = absurd (omega arith)
   number_zero (refused ls l more h m f) z = let w = faulty_number Idf3 f in absurd (omega arith)
-  number_zero (goal.too-early h m s) z = absurd (omega arith)
+  number_zero (goal.too_early h m s) z = absurd (omega arith)
 
-  pub check-accepts : length file ≤ limit → ((check_reply file).number ≡ 0) ↔ ((rs : List Rec) × FileSays Idf3 rs file)
-  check-accepts h = (number_zero check_answers, λ w. ap (λ (r : Reply). r.number) (check_count h w.1))
+  pub check_accepts : length file ≤ limit → ((check_reply file).number ≡ 0) ↔ ((rs : List Rec) × FileSays Idf3 rs file)
+  check_accepts h = (number_zero check_answers, λ w. ap (λ (r : Reply). r.number) (check_count h w.1))

@@ -31,7 +31,7 @@ use Rattle.line_rows.specs.Meaning.{Agrees, Part}
 use Rattle.line_rows.specs.declared.Filling.{Filling}
 use Rattle.line_rows.proofs.RowMeaning.{row_means}
 use Rattle.order.specs.Marks.{point_of}
-use Rattle.law.specs.Records.{type_in, names_aComponent}
+use Rattle.law.specs.Records.{type_in, names_a_component}
 use Rattle.order.specs.Places.{data_kind, key_kind}
 use Rattle.order.specs.Automaton.{is_role, type_at, may_stand, moved, stepped, unless, advance, admit}
 use Rattle.order.specs.declared.State.{State}
@@ -81,7 +81,7 @@ free_joined v file (inside g s p) = record { found = refl; state = refl }
 module _ (v : Rules) (st : State) where
   -- where no name is used, a record does what it does names aside
   pub admit_fresh : (r : Rec) → admit v [] st r ≡ advance v st r
-  admit_fresh r = go (names_aComponent v r.kind) (advance v st r)
+  admit_fresh r = go (names_a_component v r.kind) (advance v st r)
     where
       go : (b : Bool) (o : Outcome) → unless (b && false) o ≡ o
       go true (next t) = refl

@@ -25,7 +25,7 @@ use Rattle.law.specs.declared.FieldType.{FieldType}
 use Rattle.law.specs.declared.FieldType.TheVariants.{Text as T, Date as D, Integer as I, Number as N, Word as W}
 use Rattle.law.specs.Rows.{is_number, Means, none, a_number, a_word, a_date, a_text, Holds}
 use Rattle.basics.proofs.Meanings.{plain_meaning}
-use Rattle.law.specs.Records.{num_of, word_of, bytes_of, type_in, Named, names_aComponent, name_in}
+use Rattle.law.specs.Records.{num_of, word_of, bytes_of, type_in, Named, names_a_component, name_in}
 use Rattle.order.specs.Marks.{point_of}
 use Rattle.order.specs.Automaton.{is_role}
 use Rattle.shown_lists.proofs.Tables.{component_fields}
@@ -123,10 +123,10 @@ module _ (file : List ℕ) (v : Rules) (k : ℕ) (row : List ℤ) (vs : List Val
   unfolding eq_z
   type_in_lem e = rw (h.is, word_column (replicate h.left (pos 0)) h.means (title_word v k e))
 
-  pub name_in_lem : names_aComponent v k ≡ true → name_at file row ≡ name_in its
+  pub name_in_lem : names_a_component v k ≡ true → name_at file row ≡ name_in its
   name_in_lem e = let c = component_fields v k e in rw h.is (name_columns (replicate h.left (pos 0)) (rw c.1 at h.means))
 
 -- the kind in front says whether a row names a component
-pub names_is : (file : List ℕ) (v : Rules) (k : ℕ) (row : List ℤ) (vs : List Value) → Holds file k (types_of v k) row vs → leads_component row ≡ names_aComponent v k
-unfolding eq_z names_aComponent
+pub names_is : (file : List ℕ) (v : Rules) (k : ℕ) (row : List ℤ) (vs : List Value) → Holds file k (types_of v k) row vs → leads_component row ≡ names_a_component v k
+unfolding eq_z names_a_component
 names_is file Idf3 k row vs h = rw h.is

@@ -14,7 +14,7 @@ use Rattle.law.specs.declared.Rules.TheVariants.{Idf3}
 use Rattle.law.specs.Answers.{limit}
 use Rattle.read.specs.Replies.{check_reply}
 use Rattle.law.specs.Files.{FileSays}
-use Rattle.shown_read.proofs.Checked.{check_count, check-accepts}
+use Rattle.shown_read.proofs.Checked.{check_count, check_accepts}
 use Rattle.same.specs.Ignoring.{nothing}
 use Rattle.same.specs.SameLists.{same_files}
 use Rattle.same.specs.Verdicts.{refused_as, found_same, same_reply}
@@ -62,7 +62,7 @@ Same f h = (same_reply f h).count ≡ 1
 
 -- an accepted file says a list, and is not too large
 accepted_says : (f : List ℕ) → (check_reply f).number ≡ 0 → (rs : List Rec) × FileSays Idf3 rs f
-accepted_says f e = (check-accepts f (accepted_small f (check_reply f) refl e)).0 e
+accepted_says f e = (check_accepts f (accepted_small f (check_reply f) refl e)).0 e
 
 -- only accepted files are the same as any
 module _ (f h : List ℕ) (e : Same f h) where

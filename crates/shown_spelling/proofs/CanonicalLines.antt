@@ -19,7 +19,7 @@ use Rattle.law.specs.Fits.{fits, fits_all, fits_by, well_formed, WellFormed}
 use Rattle.law.specs.declared.Context.{Context}
 use Rattle.law.specs.declared.FieldType.{FieldType}
 use Rattle.law.specs.RecordSpelling.{SpellsFields, none as no_fields, more, is_data, SpellsLine, with_keyword, with_prop, as_data, SpellsRecord, as_line}
-use Rattle.law.specs.Canonical.{canonical_fields, written, joined, with_front, canonical_line, canonical_record}
+use Rattle.law.specs.Canonical.{canonical_fields, written, joined, canonical_line, canonical_record}
 use Rattle.shown_spelling.proofs.BareBytes.{tight, safe, name_byte, all_append, all_map, tight_bare, tight_permitted, text_permitted, text_quoted, tight_name, name_case}
 use Rattle.shown_spelling.proofs.Tables.{good_front, layout_front}
 use Rattle.shown_spelling.proofs.RecordSpelling.{record_unique}

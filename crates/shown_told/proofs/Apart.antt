@@ -103,7 +103,7 @@ module _ (v : Rules) where
       (record { in_section = eqb-true _ _ w.0; has_role = refl; is_good = d.fits }, w.1)
 
   pub role_line : {t : FileType} {s : ℕ} {r : Rec} {a b : Role} → a ≡ b → Line v t s a r → Line v t s b r
-  role_line e l = record { in_section = l.in-section; has_role = l.has-role ∙ e; is_good = l.is-good }
+  role_line e l = record { in_section = l.in_section; has_role = l.has_role ∙ e; is_good = l.is_good }
 
   -- a point stays among points
   point_to : (g : Stage) (s : ℕ) (t : State) (o : Option LoopState) → after_point g s o ≡ next t → apart t ≡ inside g s (in_points (round (pos 0)))

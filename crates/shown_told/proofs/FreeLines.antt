@@ -23,10 +23,10 @@ space_permitted : (b : ℕ) → is_space b ≡ true → permitted b ≡ true
 unfolding permitted
 space_permitted b e = rw (eqb-true b 32 e)
 
-pub free_line : {l : List ℕ} → Free l → line_as l ≡ free
+pub free_line_lem : {l : List ℕ} → Free l → line_as l ≡ free
 unfolding line_as begins
-free_line comment = refl
-free_line (blank {l} a) = rw (all_complete permitted (all_map space_permitted a), fields_complete l [] (spaces_spell a)) (cond_both (begins 35 l) refl refl)
+free_line_lem comment = refl
+free_line_lem (blank {l} a) = rw (all_complete permitted (all_map space_permitted a), fields_complete l [] (spaces_spell a)) (cond_both (begins 35 l) refl refl)
 
 -- what is answered of a line that is not free
 abbrev Other : Line → Type 0

@@ -171,12 +171,12 @@ module _ (v : Rules) where
       phase AwaitPosition n e h = inl (same_kind g s AwaitPosition k w.line e true h)
 
       alike : (b : Bool) → line_at (shape_of v s) p b ≡ some w.line → data_kind v (inside g s p) b ≡ k
-      alike b h = same_kind g s p k w.line w.kind-is b h
+      alike b h = same_kind g s p k w.line w.kind_is b h
 
       go : (a b : Bool) → is_role (role_of v k) role.prop ≡ a → is_prop fs ≡ b → line_at (shape_of v s) p a ≡ some w.line → Read v (inside g s p) k b
       go true true x y h = inl (alike true h)
       go true false x y h = absurd (false≢true (sym y ∙ d.by_prop x))
-      go false true x y h = phase p x w.kind-is h
+      go false true x y h = phase p x w.kind_is h
       go false false x y h = inl (alike false h)
 
 module _ (v : Rules) (rs : List Rec) (st : State) (y : Leads v start rs st) where

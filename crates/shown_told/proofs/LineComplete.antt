@@ -51,7 +51,7 @@ use Rattle.shown_spelling.proofs.LineSpelling.{Looks, line_looks}
 use Rattle.shown_spelling.proofs.KeywordLaws.{IsSection, keyword_at, section_named}
 use Rattle.shown_told.specs.Told.{nothing, says, said_at, own_fields, line_says}
 use Rattle.shown_told.proofs.Fronts.{front_at, is_data, front_is, types_laid, stands_known, integer_first, point_labelled}
-use Rattle.shown_told.proofs.FreeLines.{free_line}
+use Rattle.shown_told.proofs.FreeLines.{free_line_lem}
 use Rattle.law.specs.WordSpelling.{AnyCase, same, small}
 use Rattle.shown_spelling.proofs.WordSpelling.{case_folds, any_case}
 
@@ -140,7 +140,7 @@ module _ (v : Rules) (r : Rec) where
       let c = not-true (is_role its role.closing) (both (not (is_role its role.opening)) _ d).1 in
       let w = kind_by_place v g s p r m c in
       let e : line_at (shape_of v s) p b ≡ some w.line = sym (same_line its b c q i (shape_of v s) p (both (eqb (section_of v r.kind) s) _ m).1) ∙ w.given in
-      rw e (sym w.kind-is)
+      rw e (sym w.kind_is)
 
   module _ (used : List Named) (st t : State) (l : List ℕ) (m : may_stand v st r.kind ≡ true) (j : admit v used st r ≡ next t)
       (fs : List Field) (reads : read_fields (under v (type_at st)) (types_of v r.kind) fs ≡ good r.values) where
@@ -209,4 +209,4 @@ line_complete v used st t r l j (as_line {l = x} e p) =
 -- a free line between sections is taken to say nothing
 pub nothing_complete : (v : Rules) (used : List Named) (g : Stage) {l : List ℕ} → Free l → line_says v used (between g) l ≡ nothing
 unfolding line_says
-nothing_complete v used g f = rw (free_line f)
+nothing_complete v used g f = rw (free_line_lem f)

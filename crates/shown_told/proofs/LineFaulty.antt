@@ -46,7 +46,7 @@ use Rattle.shown_spelling.proofs.RecordSpelling.{record_fits}
 use Rattle.shown_told.specs.Told.{Said, nothing, says, wrong, free_in, said_of, said_by, said_at, said_as, line_says}
 use Rattle.law.specs.Files.{titled}
 use Rattle.shown_told.proofs.Fronts.{stands_known, zero_unknown}
-use Rattle.shown_told.proofs.FreeLines.{free_line, line_free}
+use Rattle.shown_told.proofs.FreeLines.{free_line_lem, line_free}
 use Rattle.shown_told.proofs.LineSound.{Known, Behind, line_sound, record_spelled}
 use Rattle.law.specs.LineSpelling.{Where}
 use Rattle.law.specs.LineSpelling as at
@@ -99,8 +99,8 @@ moved_loop v (inside g s p) k t d e h = phase p h
     phase await_part h = absurd (refused_next (sym h))
     phase await_position h = absurd (refused_next (sym h))
 
-bad_loop : (v : Rules) (st : State) (r : Rec) (e : Reason) → may_stand v st r.kind ≡ true → WellFormed (under v (type_at st)) r → advance v st r ≡ stops e → e ≡ bad_loop
-bad_loop v st r e m w h = moved_loop v st r.kind (type_in r) (point_of r) e (sym (rw (m, w) at (advance_is v st r)) ∙ h)
+bad_loop_lem : (v : Rules) (st : State) (r : Rec) (e : Reason) → may_stand v st r.kind ≡ true → WellFormed (under v (type_at st)) r → advance v st r ≡ stops e → e ≡ bad_loop
+bad_loop_lem v st r e m w h = moved_loop v st r.kind (type_in r) (point_of r) e (sym (rw (m, w) at (advance_is v st r)) ∙ h)
 
 module _ (v : Rules) where
   -- Names: those of a list after names used before it
@@ -184,7 +184,7 @@ module _ (v : Rules) where
 
               go : (b : Bool) (o : Outcome) → repeats v used r ≡ b → advance v st r ≡ o → said_of r (unless b o) ≡ wrong n → Faulty v rs l n
               go b (stops q) p a z =
-                  let w : q ≡ bad_loop = bad_loop v st r q m fits a in
+                  let w : q ≡ bad_loop = bad_loop_lem v st r q m fits a in
                   let t : 11 ≡ n = one_wrong (ap (λ (c : Reason). wrong (refusal_number c 5)) (sym w) ∙ z) in
                   subst (Faulty v rs l) t (by_11 {r = r} has (λ more d. refused_next (sym a ∙ (moves_on_lem r more d).1)))
               go true (next t) p a z =
@@ -207,7 +207,7 @@ module _ (v : Rules) where
               go false m a b z = subst (Faulty v rs l) (one_wrong z) (by_5 hf (λ j hs s. not_both (suits_may v rs st y x e s) m))
 
         bad_free : (j : ℕ) → line_as l ≡ bad j → Free l → ⊥
-        bad_free j e f = let w = free_line f in let z : ◌≡◌ {A = ℕ} 0 1 = cc in omega arith
+        bad_free j e f = let w = free_line_lem f in let z : ◌≡◌ {A = ℕ} 0 1 = cc in omega arith
 
         as_faulty : (x : Line) → line_as l ≡ x → Seen l x → said_as v used st x ≡ wrong n → Faulty v rs l n
         as_faulty free i s h = free_faulty st refl h s
@@ -266,7 +266,7 @@ module _ (v : Rules) where
         loop_number d = go (repeats v used r) (advance v st r) refl
           where
             go : (b : Bool) (q : Outcome) → advance v st r ≡ q → said_of r (unless b q) ≡ wrong 11
-            go b (stops q) a = ap (λ (c : Reason). wrong (refusal_number c 5)) (bad_loop v st r q (stands hf o) (fits (line_as l) refl (line_of hf)) a)
+            go b (stops q) a = ap (λ (c : Reason). wrong (refusal_number c 5)) (bad_loop_lem v st r q (stands hf o) (fits (line_as l) refl (line_of hf)) a)
             go b (next t) a = let w = carries_on v r y a in absurd (d w.0 w.1)
 
         name_number : (more : List Rec) → Permitted v (rs ++ (r ∷ more)) → (Distinct v (rs ++ (r ∷ [])) → ⊥) → said_of r (admit v used st r) ≡ wrong 12
@@ -322,7 +322,7 @@ module _ (v : Rules) where
       faulty_line (by_3 nf na) = forbidden nf na
       faulty_line (by_4 nf a ns) = unquoted nf a ns
       faulty_line (by_5 hf d) = no_kind hf d
-      faulty_line (free_5 f i) = rw (free_line f) (free_number st (sym (through_where th) ∙ i))
+      faulty_line (free_5 f i) = rw (free_line_lem f) (free_number st (sym (through_where th) ∙ i))
       faulty_line (by_6 {k = k} {gs = gs} o d) = said_by_lem o.has o.is (refused 6) (fields_miscounted (under v (titled rs)) (types_of v k) gs d)
       faulty_line (by_field {n = n} o d f) = said_by_lem o.has o.is (refused n) (fields_refused (under v (titled rs)) d f)
       faulty_line (by_11 {r = r} h d) = said_record r h.line.has h.line.is h.good ∙ loop_number r h.line.has h.line.is h.good d

@@ -209,5 +209,5 @@ module _ (v : Rules) where
     line_sound r t e = subst Means e line_means
 
     -- a line that is taken to say nothing is free, and no section is open
-    pub line-nothing : line_says v used st l ≡ nothing → (g : Stage) × (st ≡ between g) × Free l
-    line-nothing e = subst Means e line_means
+    pub line_nothing : line_says v used st l ≡ nothing → (g : Stage) × (st ≡ between g) × Free l
+    line_nothing e = subst Means e line_means

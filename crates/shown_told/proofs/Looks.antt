@@ -22,7 +22,7 @@ use Rattle.law.specs.RecordSpelling.{is_data}
 use Rattle.shown_spelling.proofs.Logic.{refused_good, cond_good}
 use Rattle.shown_spelling.proofs.LineSpelling.{begins_cons}
 use Rattle.shown_spelling.proofs.WordSpelling.{case_folds, any_case}
-use Rattle.shown_told.proofs.FreeLines.{free_line, line_free}
+use Rattle.shown_told.proofs.FreeLines.{free_line_lem, line_free}
 use Rattle.law.specs.LineFaults.{Fronted, with_keyword, with_prop, as_data, HasFields}
 use Rattle.law.specs.WordSpelling.{AnyCase, same, small}
 
@@ -34,7 +34,7 @@ Seen l (key_line w gs) = (fs : List Field) × HasFields l fs × (line_as l ≡ b
 Seen l (data_line gs) = (fs : List Field) × HasFields l fs × (line_as l ≡ by_first fs)
 
 not_free : {l : List ℕ} {x : Line} → line_as l ≡ x → (x ≡ free → ⊥) → Free l → ⊥
-not_free e n f = n (sym e ∙ free_line f)
+not_free e n f = n (sym e ∙ free_line_lem f)
 
 -- a line that is not free, with fields: read by its first
 no_hash : (l : List ℕ) → (Free l → ⊥) → begins 35 l ≡ false

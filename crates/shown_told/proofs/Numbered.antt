@@ -79,7 +79,7 @@ module _ (v : Rules) where
     breaks_refused [] (take_in e b) i = absurd (omega arith)
     breaks_refused (q ∷ ls) (here e) i = absurd (omega arith)
     breaks_refused (q ∷ ls) (pass e b) i = let w = breaks_refused ls b (omega arith) in record { rs = w.rs; mid = w.mid; front = pass e w.front; line = w.line }
-    breaks_refused (q ∷ ls) (take_in {r = r} e b) i = let w = breaks_refused ls b (omega arith) in record { rs = r ∷ w.rs; mid = w.mid; front = take_in e w.front; line = w.line }
+    breaks_refused {used = used} (q ∷ ls) (take_in {r = r} e b) i = let w = breaks_refused {used = noted v used r} ls b (omega arith) in record { rs = r ∷ w.rs; mid = w.mid; front = take_in e w.front; line = w.line }
 
     refused_breaks : {used : List Named} {st mid : State} {ls : List (List ℕ)} {rs : List Rec} {n : ℕ} → Through v used st ls rs mid → line_says v (used_by v used rs) mid l ≡ wrong n
         → Breaks v used st (ls ++ (l ∷ more)) (length ls) n

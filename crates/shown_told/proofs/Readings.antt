@@ -82,8 +82,8 @@ module _ (v : Rules) where
       → Breaks used st (take i ls ++ more) k n
   still_breaks zero more b h = absurd (omega arith)
   still_breaks (suc i) more (here e) h = here e
-  still_breaks (suc i) more (pass e b) h = pass e (still_breaks i more b (omega arith))
-  still_breaks (suc i) more (take_in e b) h = take_in e (still_breaks i more b (omega arith))
+  still_breaks (suc i) more (pass {ls = ls} e b) h = pass e (still_breaks {ls = ls} i more b (omega arith))
+  still_breaks {used = used} (suc i) more (take_in {mid = mid} {ls = ls} {r = r} e b) h = take_in e (still_breaks {used = noted v used r} {st = mid} {ls = ls} i more b (omega arith))
 
   -- the first j lines are read through
   abbrev pub Front : List Named → State → List (List ℕ) → ℕ → Type 0
@@ -92,11 +92,11 @@ module _ (v : Rules) where
   pub breaks_before : {used : List Named} {st : State} {ls : List (List ℕ)} {k n : ℕ} (j : ℕ) → Breaks used st ls k n → j ≤ k → Front used st ls j
   breaks_before {st = st} zero b h = ([], st, done)
   breaks_before (suc j) (here e) h = absurd (omega arith)
-  breaks_before (suc j) (pass e b) h = let w = breaks_before j b (omega arith) in (w.0, w.1, pass e w.2)
-  breaks_before (suc j) (take_in {r = r} e b) h = let w = breaks_before j b (omega arith) in (r ∷ w.0, w.1, take_in e w.2)
+  breaks_before (suc j) (pass {ls = ls} e b) h = let w = breaks_before {ls = ls} j b (omega arith) in (w.0, w.1, pass e w.2)
+  breaks_before {used = used} (suc j) (take_in {mid = mid} {ls = ls} {r = r} e b) h = let w = breaks_before {used = noted v used r} {st = mid} {ls = ls} j b (omega arith) in (r ∷ w.0, w.1, take_in e w.2)
 
   pub through_part : {used : List Named} {st en : State} {ls : List (List ℕ)} {rs : List Rec} (j : ℕ) → Through used st ls rs en → Front used st ls j
   through_part {st = st} zero k = ([], st, done)
   through_part {st = st} (suc j) done = ([], st, done)
-  through_part (suc j) (pass e k) = let w = through_part j k in (w.0, w.1, pass e w.2)
-  through_part (suc j) (take_in {r = r} e k) = let w = through_part j k in (r ∷ w.0, w.1, take_in e w.2)
+  through_part (suc j) (pass {ls = ls} e k) = let w = through_part {ls = ls} j k in (w.0, w.1, pass e w.2)
+  through_part {used = used} (suc j) (take_in {mid = mid} {ls = ls} {r = r} {rs = rs} e k) = let w = through_part {used = noted v used r} {st = mid} {ls = ls} {rs = rs} j k in (r ∷ w.0, w.1, take_in e w.2)

@@ -50,7 +50,7 @@ use Rattle.shown_lists.proofs.FirstLine.{sane_leads}
 use Rattle.shown_lists.proofs.Viable.{Ending, quietly, with_one, ending}
 use Rattle.shown_told.proofs.Fronts.{stands_known}
 use Rattle.law.specs.LineFaults.{is_point, without_points, Stands}
-use Rattle.shown_told.proofs.Apart.{point_true, point_false, is_line, point_from}
+use Rattle.shown_told.proofs.Apart.{point_true, point_false, point_from}
 
 -- a state just reached among points by a record that is none has no point yet
 abbrev FreshIn : Phase → Type 0

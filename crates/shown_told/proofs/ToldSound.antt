@@ -30,7 +30,7 @@ use Rattle.shown_lists.proofs.FirstLine.{taken, accepted_exactly, run_typed}
 use Rattle.law.specs.LineSpelling.{Where, outside, inside as within, leads_to, SpellsLines, end, free, line}
 use Rattle.shown_told.specs.Told.{ended, told_from}
 use Rattle.law.specs.Files.{titled, LinesSay}
-use Rattle.shown_told.proofs.LineSound.{line_sound, line-nothing}
+use Rattle.shown_told.proofs.LineSound.{line_sound, line_nothing}
 use Rattle.shown_told.proofs.Respelling.{spelled_again}
 use Rattle.shown_told.proofs.WellFormedLists.{Every, one, permitted_fit}
 use Rattle.shown_told.proofs.Readings.{Through, done, pass, take_in, told_through}
@@ -111,7 +111,7 @@ module _ (v : Rules) where
       → Every (λ r. WellFormed (under v u) r) (rs ++ qs) → SpellsLines (under v u) (where_of en) qs ms → SpellsLines (under v u) (where_of st) (rs ++ qs) (ls ++ ms)
   through_spells u done f m = m
   through_spells u {used} {st} (pass {l = l} e k) f m =
-      let w = line-nothing v used st l e in
+      let w = line_nothing v used st l e in
       let z : where_of st ≡ outside = ap where_of w.1 in
       rw z (free w.2 (rw z at (through_spells u k f m)))
   through_spells u {used} {st} {ms = ms} {qs = qs} (take_in {mid = t} {l = l} {ls = ls} {r = r} {rs = rs} e k) (one g f) m =

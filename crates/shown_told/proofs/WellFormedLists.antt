@@ -60,7 +60,7 @@ module _ (v : Rules) (t : FileType) where
     body_fit (placed e m) = pairs_fit m
 
     section_fit : {rs : List Rec} → Section v t s rs → Fit rs
-    section_fit (section o b c) = one o.is_good (every_append (body_fit b) (one c.is-good none))
+    section_fit (section o b c) = one o.is_good (every_append (body_fit b) (one c.is_good none))
 
   sections_fit : {ss : List ℕ} {rs : List Rec} → Sections v t ss rs → Fit rs
   sections_fit no_section = none
@@ -68,8 +68,8 @@ module _ (v : Rules) (t : FileType) where
 
 -- a header says the file's type
 header_fit : {v : Rules} {t : FileType} {hs : List Rec} → Header v t hs → Fit v t hs
-header_fit (header_of n o a e b c) = one o.is_good (one a.is_good (one b.is_good (one c.is-good none)))
-header_fit (header_of_library o a e c) = one o.is_good (one a.is_good (one c.is-good none))
+header_fit (header_of n o a e b c) = one o.is_good (one a.is_good (one b.is_good (one c.is_good none)))
+header_fit (header_of_library o a e c) = one o.is_good (one a.is_good (one c.is_good none))
 
 header_says : {v : Rules} {t : FileType} {hs : List Rec} (ms : List Rec) → Header v t hs → titled (hs ++ ms) ≡ t
 header_says ms (header_of n o a e b c) = e

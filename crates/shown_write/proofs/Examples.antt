@@ -21,7 +21,7 @@ use Rattle.law.specs.declared.Rules.TheVariants.{Idf3}
 use Rattle.law.specs.Canonical.{needs_quotes, canonical_field, canonical_fields, written, joined, canonical_line, canonical_record, canonical_text}
 use Rattle.law.specs.Rows.{none, a_number, a_word, a_date, a_text, with_line, lines_in, RowsSay}
 use Rattle.order_loops.specs.Loops.{loop_after}
-use Rattle.law.specs.Records.{shape_of, many_loops, names_aComponent}
+use Rattle.law.specs.Records.{shape_of, many_loops, names_a_component}
 use Rattle.order.specs.Stages.{may_open, after}
 use Rattle.order.specs.Automaton.{advance, may_stand, moved, stepped}
 use Rattle.law.specs.Lists.{nothing_named}
@@ -109,7 +109,7 @@ library = of 10 [] ∷ of 11 (word 2 ∷ number (pos 300_000) ∷ text (ascii "p
 
 -- the rows of the header say this list, and its text is within the limit
 pub says : RowsSay lent library (header 1 0)
-unfolding lines_in advance well_formed fits_all fits within good_text meaning is_name named is_in folded barred all_of permitted same_bytes words_of word_at is_empty is_date fits_in is_two date_pieces may_open after shape_of many_loops names_aComponent layout_of types_of section_of line_of role_of sections
+unfolding lines_in advance well_formed fits_all fits within good_text meaning is_name named is_in folded barred all_of permitted same_bytes words_of word_at is_empty is_date fits_in is_two date_pieces may_open after shape_of many_loops names_a_component layout_of types_of section_of line_of role_of sections
 says = record {
   means = rows.row (pos 1) (record { columns = []; left = 9; is = refl; ten = refl; means = none })
       (rows.row (pos 2) (record { columns = _; left = 2; is = refl; ten = refl; means = a_word (a_number refl (a_text {a = 20} {l = 1} (omega arith) (a_date {a = 0} {l = 19} (omega arith) (a_number refl none)))) })

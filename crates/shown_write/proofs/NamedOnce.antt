@@ -11,7 +11,7 @@ use Rattle.law.specs.Values.{Rec}
 use Rattle.law.specs.Layouts.{types_of}
 use Rattle.law.specs.declared.Rules.{Rules}
 use Rattle.law.specs.Rows.{Holds}
-use Rattle.law.specs.Records.{Named, names_aComponent, name_in}
+use Rattle.law.specs.Records.{Named, names_a_component, name_in}
 use Rattle.order.specs.Automaton.{same_name, is_among}
 use Rattle.law.specs.Lists.{names_of, AllDiffer, nothing_named, and_new, Distinct}
 use Rattle.shown_lists.proofs.Names.{not_among, among_false}
@@ -35,8 +35,8 @@ differ_again (and_new n d) = rw (among_false n, differ_again d)
 
 module _ (v : Rules) (bytes : List ℕ) where
   -- x holds a record that names a component
-  module _ (x : List ℤ) (r : Rec) (h : Holds bytes r.kind (types_of v r.kind) x r.values) (e : names_aComponent v r.kind ≡ true) where
-    same_is : (y : List ℤ) (q : Rec) → Holds bytes q.kind (types_of v q.kind) y q.values → names_aComponent v q.kind ≡ true
+  module _ (x : List ℤ) (r : Rec) (h : Holds bytes r.kind (types_of v r.kind) x r.values) (e : names_a_component v r.kind ≡ true) where
+    same_is : (y : List ℤ) (q : Rec) → Holds bytes q.kind (types_of v q.kind) y q.values → names_a_component v q.kind ≡ true
         → same_names bytes x bytes y ≡ same_name (name_in r) (name_in q)
     unfolding same_names same_texts
     same_is y q g f =
@@ -46,9 +46,9 @@ module _ (v : Rules) (bytes : List ℕ) where
     named_is : {qs : List Rec} {ys : List (List ℤ)} → ListMeans v bytes qs ys → named_in bytes x ys ≡ is_among (name_in r) (names_of v qs)
     unfolding named_in names_it
     named_is none = refl
-    named_is (more {r = q} {rs = qs} {x = y} g m) = rw (names_is bytes v q.kind y q.values g, named_is m) (go (names_aComponent v q.kind) refl)
+    named_is (more {r = q} {rs = qs} {x = y} g m) = rw (names_is bytes v q.kind y q.values g, named_is m) (go (names_a_component v q.kind) refl)
       where
-        go : (b : Bool) → names_aComponent v q.kind ≡ b
+        go : (b : Bool) → names_a_component v q.kind ≡ b
             → (b && same_names bytes x bytes y || is_among (name_in r) (names_of v qs)) ≡ is_among (name_in r) (cond b (name_in q ∷ names_of v qs) (names_of v qs))
         go true f = ap (λ (c : Bool). c || is_among (name_in r) (names_of v qs)) (same_is y q g f)
         go false f = refl
@@ -56,9 +56,9 @@ module _ (v : Rules) (bytes : List ℕ) where
   twice_is : {rs : List Rec} {xs : List (List ℤ)} → ListMeans v bytes rs xs → twice bytes xs ≡ again (names_of v rs)
   unfolding twice
   twice_is none = refl
-  twice_is (more {r = r} {rs = rs} {x = x} {xs = xs} h m) = rw (names_is bytes v r.kind x r.values h, twice_is m) (go (names_aComponent v r.kind) refl)
+  twice_is (more {r = r} {rs = rs} {x = x} {xs = xs} h m) = rw (names_is bytes v r.kind x r.values h, twice_is m) (go (names_a_component v r.kind) refl)
     where
-      go : (b : Bool) → names_aComponent v r.kind ≡ b → (b && named_in bytes x xs || again (names_of v rs)) ≡ again (cond b (name_in r ∷ names_of v rs) (names_of v rs))
+      go : (b : Bool) → names_a_component v r.kind ≡ b → (b && named_in bytes x xs || again (names_of v rs)) ≡ again (cond b (name_in r ∷ names_of v rs) (names_of v rs))
       go true e = ap (λ (c : Bool). c || again (names_of v rs)) (named_is x r h e m)
       go false e = refl
 

@@ -66,8 +66,8 @@ file_rows file {rs} s =
 
 module _ (file : List ℕ) {rs : List Rec} (s : FileSays Idf3 rs file) where
   -- what `read` leaves in front of a slice with room for it are the file's rows
-  pub read-front : length file ≤ limit → (old : List ℤ) → length rs ≤ capacity (length old) → take (stride * length rs) (read_rows file old) ≡ rows_of file
-  read-front h old i = rw (read_puts file h s old i) (take_at (rows_of file) (drop (length (rows_of file)) old) (stride * length rs) (check_long file s))
+  pub read_front : length file ≤ limit → (old : List ℤ) → length rs ≤ capacity (length old) → take (stride * length rs) (read_rows file old) ≡ rows_of file
+  read_front h old i = rw (read_puts file h s old i) (take_at (rows_of file) (drop (length (rows_of file)) old) (stride * length rs) (check_long file s))
 
   pub write_read_text : length (canonical_text Idf3 rs) ≤ limit → (old : List ℕ) → length (canonical_text Idf3 rs) ≤ length old
       → (write_reply (rows_of file) file (length old) ≡ reply 0 0 (length (canonical_text Idf3 rs)))

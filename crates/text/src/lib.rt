@@ -1,11 +1,13 @@
 // Bytes and lines of a file; nothing of IDF. Every other layer reads bytes through this one.
+#![tactic(auto)]
+
 ghost use Rattle.std.specs.Prelude.{◌≡◌};
 ghost use Rattle.text.specs.Bytes.{class_of};
 ghost use Rattle.law.specs.Bytes.{permitted, begins, all_of};
 ghost use Rattle.text.specs.Lines.{line_feed, line_end};
 
 // The class of a byte. Byte 10 is forbidden: it never stands inside a line.
-#[derive(Drop)]
+#[derive(Clone, Copy)]
 pub enum ByteClass {
     Space,
     Quote,
@@ -65,7 +67,7 @@ fn line_feed(s: &[u8]) -> usize
 }
 
 // Where a line's content ends and where the next line begins, counted from the line's first byte.
-#[derive(Drop)]
+#[derive(Clone, Copy)]
 pub struct LineEnd {
     pub content: usize,
     pub next: usize,

@@ -306,7 +306,7 @@ complete_in : {fs : List Field} {s : List ℕ} → Spelled fs s → (fuel : ℕ)
 unfolding fields_in field_of field_at span ends_well
 complete_in r zero h = absurd (not-suc-le-zero h)
 complete_in end (suc fuel) h = refl
-complete_in (space {s = s} r) (suc fuel) h = rw (shift_of s) (shift_by (field_of s) s (fields_in fuel) ∙ complete_in r (suc fuel) (omega arith))
+complete_in (space {fs = fs} {s = s} r) (suc fuel) h = rw (shift_of s) (shift_by (field_of s) s (fields_in fuel) ∙ complete_in {fs = fs} {s = s} r (suc fuel) (omega arith))
 complete_in (last {s = s} p) (suc fuel) h =
     let b = some_spells p in
     let e = read_step s [] fuel (read [] p refl) (complete_in end fuel (omega arith)) in

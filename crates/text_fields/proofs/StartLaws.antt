@@ -1,5 +1,5 @@
 -- Laws of a line without regard to quoting, and why it counts the fields of one without quotes.
-use Prim.Native.Nat.{ℕ, zero, suc, ◌+◌, ◌-◌, ◌≤◌, ◌<◌}
+use Prim.Native.Nat.{ℕ, zero, suc, ◌+◌, ◌≤◌, ◌<◌}
 use mir.Syntax.{w8}
 use mir.Val.{Fits}
 use mathlib.Core.Path.{◌≡◌, refl, sym, ap, ◌∙◌}

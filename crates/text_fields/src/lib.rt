@@ -1,11 +1,13 @@
 // The fields that a line is cut into, and how many there are.
+#![tactic(auto)]
+
 ghost use Rattle.std.specs.Prelude.{◌≡◌, ◌+◌, ◌^◌, ◌≤◌, ◌<◌, length, drop};
 ghost use Rattle.text_fields.specs.FirstField.{passes_of, run_len, ends_well, bare_at, quoted_at, field_of};
 ghost use Rattle.text_fields.specs.Fields.{count_of};
 ghost use Rattle.text_fields.specs.Starts.{one_if, rough_of};
 
 // A run of bytes, by what it is made of.
-#[derive(Drop)]
+#[derive(Clone, Copy)]
 enum Run {
     Spaces,
     Bare,
@@ -49,7 +51,7 @@ fn ends(s: &[u8], at: usize) -> bool
 }
 
 // The first field of a part of a line: none is left; where it stands, its quotes left off, and the place after it; broken quoting.
-#[derive(Drop)]
+#[derive(Clone, Copy)]
 pub enum FieldAnswer {
     Nothing,
     Got {
@@ -116,7 +118,7 @@ pub fn field(s: &[u8]) -> FieldAnswer
 }
 
 // How many fields a line has, unless its quoting is broken.
-#[derive(Drop)]
+#[derive(Clone, Copy)]
 pub enum CountAnswer {
     Fields(usize),
     Bad,
@@ -130,7 +132,7 @@ fn one_if(b: bool) -> u8
 }
 
 // A line without regard to quoting: how many bytes that are no space have a space or nothing before them, and whether one is a quote.
-#[derive(Drop)]
+#[derive(Clone, Copy)]
 struct Rough {
     starts: u8,
     quoted: bool,

@@ -1,7 +1,9 @@
 // The line reader, for the shelf's viewer: one line's fields at a time, by their starts and lengths in the file.
 // `line::fields_at` does the work on a plain slice and two numbers. A `Reader` holds the file and the place between two calls; the
-// functions over it take it apart at once, and each is proved by a walk of its own. Its fields can be set from outside: every place
+// functions over it take it apart at once. Its fields can be set from outside: every place
 // and every line number has an answer, and a place at or past the end of the file is one where no line is left.
+#![tactic(auto)]
+
 pub mod line;
 
 ghost use Rattle.std.specs.Prelude.{◌≡◌, length};
@@ -11,14 +13,14 @@ ghost use Rattle.viewer.specs.Readers.{step_here, moved_by, places_here};
 use law::Reply;
 
 // A line at first sight: the number of its fields, or the number of its refusal.
-#[derive(Drop)]
+#[derive(Clone, Copy)]
 pub(crate) enum Seen {
     Fields(usize),
     Refused(u64),
 }
 
 // What a call answers: its reply, and the place of the line that the next call hands out, with that line's number.
-#[derive(Drop)]
+#[derive(Clone, Copy)]
 pub struct Step {
     pub reply: Reply,
     pub at: usize,

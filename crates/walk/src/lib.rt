@@ -1,11 +1,13 @@
 // One walk over a file, a line at a time: what a line turned out to be, and where the walk stands after it.
+#![tactic(auto)]
+
 pub mod line;
 pub mod steps;
 
 use order::State;
 
 // What a line turned out to be: a record; a comment or blank between sections; refused with a number.
-#[derive(Drop)]
+#[derive(Clone, Copy)]
 pub enum Found {
     Row,
     Nothing,
@@ -13,7 +15,7 @@ pub enum Found {
 }
 
 // A line judged: what it is, its row if it is a record, and the state after it.
-#[derive(Drop)]
+#[derive(Clone, Copy)]
 pub struct JudgedLine {
     pub found: Found,
     pub row: [i64; rows::WIDTH],
@@ -21,7 +23,7 @@ pub struct JudgedLine {
 }
 
 // Where a walk stands: the place of the next line, its number from 1, and the state before it.
-#[derive(Drop)]
+#[derive(Clone, Copy)]
 pub struct Walk {
     pub at: usize,
     pub line: u64,
@@ -29,7 +31,7 @@ pub struct Walk {
 }
 
 // One step of a walk: what the line is, its row, and where the walk stands after it.
-#[derive(Drop)]
+#[derive(Clone, Copy)]
 pub struct Turn {
     pub found: Found,
     pub row: [i64; rows::WIDTH],

@@ -1,4 +1,6 @@
 // Rows as canonical text: whether they are a list that a file may say, and the text itself, written into a lent slice.
+#![tactic(auto)]
+
 pub mod carried;
 pub mod numbers;
 pub mod repeats;
@@ -8,7 +10,7 @@ pub mod whole;
 use order::State;
 
 // What a row did: whether it stands, and the state after it.
-#[derive(Drop)]
+#[derive(Clone, Copy)]
 pub struct Stood {
     pub good: bool,
     pub state: State,

@@ -1,4 +1,6 @@
 // Rows that are to be written: whether the columns of a row hold the values of a record, over the bytes that are lent with them.
+#![tactic(auto)]
+
 ghost use Rattle.std.specs.Prelude.{◌≡◌, ◌<◌, drop};
 ghost use Rattle.law.specs.Bytes.{all_of};
 ghost use Rattle.law.specs.Values.{text};

@@ -150,11 +150,11 @@ module _ (v : Rules) (k n m role : ℕ) (i : role ≡ role_number (role_of v k))
     named : row ≡ name_at role s
     named = rw j at f
 
-    pub front-len-mark : length row ≡ 20 → (x : ℕ) → x ≡ length (trimmed row) → Fits w64 (m + x)
-    front-len-mark w x g = omega (arith, e, mark_short role, trimmed_short row)
+    pub front_len_mark : length row ≡ 20 → (x : ℕ) → x ≡ length (trimmed row) → Fits w64 (m + x)
+    front_len_mark w x g = omega (arith, e, mark_short role, trimmed_short row)
 
-    pub front-len-fits : length row ≡ 20 → (x : ℕ) → x ≡ length (trimmed row) → Fits w64 (m + x + 1)
-    front-len-fits w x g = omega (arith, e, mark_short role, trimmed_short row)
+    pub front_len_fits : length row ≡ 20 → (x : ℕ) → x ≡ length (trimmed row) → Fits w64 (m + x + 1)
+    front_len_fits w x g = omega (arith, e, mark_short role, trimmed_short row)
 
     pub front_len_some : (x : ℕ) → (m ≡ 0 → ⊥) → x ≡ length (trimmed row) → m + x + 1 ≡ length (front_text (role_number (role_of v k)) s n)
     front_len_some x h g = omega (arith, ap length moved, front_length role s n m e h, e, g, ap (λ (l : List ℕ). length (trimmed l)) named)

@@ -1,4 +1,6 @@
 // One row as a line of canonical text: how many bytes it takes, and the line itself, written into a lent slice from a place on.
+#![tactic(auto)]
+
 pub mod fronts;
 pub mod values;
 

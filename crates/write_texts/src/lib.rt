@@ -1,4 +1,6 @@
 // Texts and words as bytes, written into a lent slice from a place on, and the number of bytes that this takes.
+#![tactic(auto)]
+
 ghost use Rattle.std.specs.Prelude.{◌≡◌, ◌+◌, ◌≤◌, length};
 ghost use Rattle.law.specs.Bytes.{all_of};
 ghost use Rattle.law.specs.Fields.{field};

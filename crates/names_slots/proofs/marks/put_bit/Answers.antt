@@ -1,0 +1,30 @@
+-- `names_slots::marks::put_bit` meets its contract. Assumes nothing.
+use borrow.Author.Rules.{rules}
+use Rattle.names_slots.proofs.MarkLaws.{word_within, put_is}
+use Rattle.names_slots.proofs.marks.put_bit.Goals as goal
+
+ruleset laws = (word_within, put_is, rules)
+
+pub bit_of-b-requires : goal.bit_of-b-requires
+bit_of-b-requires c = search laws
+
+pub word_of-at-requires : goal.word_of-at-requires
+word_of-at-requires c = search laws
+
+pub bounds-marks-at : goal.bounds-marks-at
+bounds-marks-at c = search laws
+
+pub bounds-marks-at-2 : goal.bounds-marks-at-2
+bounds-marks-at-2 c = search laws
+
+pub shape_of-marks : goal.shape_of-marks
+shape_of-marks c = search laws
+
+pub returns : goal.returns
+returns c = search laws
+
+pub offset_bounds-marks-at : goal.offset_bounds-marks-at
+offset_bounds-marks-at c = search laws
+
+pub offset_bounds-marks-at-2 : goal.offset_bounds-marks-at-2
+offset_bounds-marks-at-2 c = search laws
