@@ -4,7 +4,8 @@ mod common;
 
 use std::ffi::OsStr;
 use std::fs;
-use std::process::Stdio;
+use std::os::fd::OwnedFd;
+use std::os::unix::net::UnixStream;
 
 use serde_json::{json, Value};
 use sha2::{Digest, Sha256};
@@ -125,14 +126,11 @@ fn a_file_over_the_limit_is_answered_without_being_read_whole() {
 #[test]
 fn a_reader_that_goes_away_is_no_fault() {
     for line in ["rows board_dated.emn", "diff --limit 0 board_dated.emn panel_dated.emn"] {
-        let mut child = quay()
-            .args(line.split(' '))
-            .stdout(Stdio::piped())
-            .stderr(Stdio::piped())
-            .spawn()
-            .expect("the command starts");
-        drop(child.stdout.take());
-        let output = child.wait_with_output().expect("it ends");
+        // Gone before the command starts: one that reads what is printed may be done before its end is closed.
+        let (reader, writer) = UnixStream::pair().expect("two ends");
+        drop(reader);
+        let output =
+            quay().args(line.split(' ')).stdout(OwnedFd::from(writer)).output().expect("it ends");
         assert_eq!((text(&output.stderr).as_str(), output.status.code()), ("", Some(0)), "{line}");
     }
 }
