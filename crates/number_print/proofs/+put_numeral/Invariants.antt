@@ -1,4 +1,4 @@
--- What the loops of `+put_numeral` keep.
+-- Why `put_numeral`, which calls itself, ends.
 use Rattle.number_print.proofs.+put_numeral.Given as goal
 
 abbrev pub decreases-put_numeral : goal.decreases-put_numeral

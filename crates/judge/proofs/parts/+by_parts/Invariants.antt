@@ -1,4 +1,4 @@
--- What the loops of `+by_parts` keep.
+-- Why `by_parts`, which calls itself, ends.
 use Rattle.judge.proofs.PartLaws.{left}
 use Rattle.judge.proofs.parts.+by_parts.Given as goal
 
