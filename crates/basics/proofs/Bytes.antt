@@ -1,16 +1,15 @@
 -- Laws of bytes compared: what the test says, and how a loop over two slices follows it.
-use Prim.Native.Nat.{ℕ, ◌+◌, ◌≤◌, ◌<◌}
-use mathlib.Core.Path.{◌≡◌, refl, sym, ap, ap₂, ◌∙◌}
+use Prim.Native.Nat.{ℕ}
+use mathlib.Core.Path.{◌≡◌, refl, sym, ap, ap₂}
 use mathlib.Core.Logic.{◌≢◌}
 use mathlib.Core.List.{List, [], ◌∷◌}
-use mathlib.Core.Bool.{Bool, true, false, false≢true}
-use native.Mathlib.Omega.{arith}
-use borrow.Author.Tests.{eqb-true, eq-eqb, ne_eqb}
+use mathlib.Core.Bool.{Bool, true, false, ◌&&◌, false≢true}
+use borrow.Author.Tests.{eqb-true}
 use lib.Dec.{eqb}
-use lib.ListN.{length, drop, get_or}
+use lib.ListN.{length}
+use Rattle.std.specs.Cmp.Lexicographic.{pointwise}
 use Rattle.law.specs.Words.{same_bytes}
 use Rattle.basics.proofs.Bools.{both, not_both, fails, eqb_self}
-use Rattle.basics.proofs.Lists.{at_cons, at_end}
 
 pub bytes_true : (s t : List ℕ) → same_bytes s t ≡ true → s ≡ t
 unfolding same_bytes
@@ -37,20 +36,10 @@ bytes_differ s t n = fails s t (same_bytes s t) (bytes_true s t) n
 pub len_differ : (s t : List ℕ) → (length s ≡ length t → ⊥) → false ≡ same_bytes s t
 len_differ s t h = sym (bytes_differ s t (λ e. h (ap length e)))
 
--- two slices of one length from an index on
-module _ (s t : List ℕ) (i : ℕ) {g : Bool} (inv : same_bytes (drop i s) (drop i t) ≡ g) (l : length s ≡ length t) where
-  pub same_end : length s ≤ i → true ≡ g
-  unfolding same_bytes
-  same_end h = sym (rw (at_end s i h, at_end t i (omega arith))) ∙ inv
-
-  pub same_bad : i < length s → (get_or s i 0 ≡ get_or t i 0 → ⊥) → false ≡ g
-  unfolding same_bytes
-  same_bad h n =
-      let e : same_bytes (drop i s) (drop i t) ≡ false = rw (at_cons s i h, at_cons t i (omega arith), ne_eqb (get_or s i 0) (get_or t i 0) n) in
-      sym e ∙ inv
-
-  pub same_more : i < length s → get_or s i 0 ≡ get_or t i 0 → same_bytes (drop (i + 1) s) (drop (i + 1) t) ≡ g
-  unfolding same_bytes
-  same_more h n =
-      let e : same_bytes (drop i s) (drop i t) ≡ same_bytes (drop (i + 1) s) (drop (i + 1) t) = rw (at_cons s i h, at_cons t i (omega arith), eq-eqb (get_or s i 0) (get_or t i 0) n) in
-      sym e ∙ inv
+-- what `==` answers of two slices
+pub pointwise_bytes : (s t : List ℕ) → pointwise eqb s t ≡ same_bytes s t
+unfolding same_bytes
+pointwise_bytes [] [] = refl
+pointwise_bytes [] (b ∷ t) = refl
+pointwise_bytes (a ∷ s) [] = refl
+pointwise_bytes (a ∷ s) (b ∷ t) = ap (λ (r : Bool). eqb a b && r) (pointwise_bytes s t)

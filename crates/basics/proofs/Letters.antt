@@ -1,19 +1,20 @@
 -- Laws of letters in capitals: what folding keeps, and how a loop over two slices follows it.
-use Prim.Native.Nat.{ℕ, zero, suc, ◌+◌, ◌-◌, ◌≤◌, ◌<◌}
+use Prim.Native.Nat.{ℕ, zero, suc, ◌-◌, ◌≤◌, ◌<◌}
 use mathlib.Core.Path.{◌≡◌, refl, sym, ap, ap₂, ◌∙◌}
 use mathlib.Core.List.{List, [], ◌∷◌}
 use mathlib.Core.Bool.{Bool, true, false, cond, not, ◌&&◌}
 use native.Mathlib.Omega.{arith}
-use borrow.Author.Tests.{not-true, not-false, eqb-true, eqb-false, leb-true, le-leb, lt-leb, ne_eqb}
+use borrow.Author.Tests.{leb-true, le-leb, lt-leb, ne_eqb}
 use lib.Dec.{leb, eqb}
-use lib.ListN.{length, drop, get_or}
+use lib.ListN.{length, get_or}
+use Rattle.std.specs.List.{list_all, zip}
 use Rattle.law.specs.Bytes.{permitted, all_of, begins}
 use Rattle.law.specs.Words.{is_small, capital, folded, same_bytes}
 use Rattle.law.specs.Fits.{text_byte}
 use Rattle.law.specs.Canonical.{no_space}
 use Rattle.basics.specs.Letters.{keyed, cased}
 use Rattle.basics.proofs.Bools.{and_left, and_right}
-use Rattle.basics.proofs.Bytes.{len_differ, same_end, same_bad, same_more}
+use Rattle.basics.proofs.Bytes.{len_differ}
 
 pub folded_long : (s : List ℕ) → length (folded s) ≡ length s
 unfolding folded
@@ -95,31 +96,20 @@ unfolding cased
 cased_long true s = folded_long s
 cased_long false s = refl
 
-cased_at : (x : Bool) (s : List ℕ) (i : ℕ) → get_or (cased x s) i 0 ≡ keyed x (get_or s i 0)
-unfolding cased
-cased_at true s i = folded_at s i
-cased_at false s i = refl
-
 pub letters_length : (x y : Bool) (s t : List ℕ) → (length s ≡ length t → ⊥) → false ≡ same_bytes (cased x s) (cased y t)
 letters_length x y s t n = len_differ (cased x s) (cased y t) (λ e. n (sym (cased_long x s) ∙ e ∙ cased_long y t))
 
-module _ (x y : Bool) (s t : List ℕ) (i : ℕ) {g : Bool} (inv : same_bytes (drop i (cased x s)) (drop i (cased y t)) ≡ g) (l : length s ≡ length t) where
-  long : length (cased x s) ≡ length (cased y t)
-  long = cased_long x s ∙ l ∙ sym (cased_long y t)
-
-  pub letters_end : length s ≤ i → true ≡ g
-  letters_end h = same_end (cased x s) (cased y t) i inv long (omega (arith, cased_long x s))
-
-  module _ (h : i < length s) (r : Bool) (e : r ≡ eqb (keyed x (get_or s i 0)) (keyed y (get_or t i 0))) where
-    here : i < length (cased x s)
-    here = omega (arith, cased_long x s)
-
-    pub letters_bad : not r ≡ true → false ≡ g
-    letters_bad n =
-        let k = eqb-false (keyed x (get_or s i 0)) (keyed y (get_or t i 0)) (sym e ∙ not-true r n) in
-        same_bad (cased x s) (cased y t) i inv long here (λ q. k (sym (cased_at x s i) ∙ q ∙ cased_at y t i))
-
-    pub letters_more : not r ≡ false → same_bytes (drop (i + 1) (cased x s)) (drop (i + 1) (cased y t)) ≡ g
-    letters_more n =
-        let k = eqb-true (keyed x (get_or s i 0)) (keyed y (get_or t i 0)) (sym e ∙ not-false r n) in
-        same_more (cased x s) (cased y t) i inv long here (cased_at x s i ∙ k ∙ sym (cased_at y t i))
+-- byte by byte
+pub letters_all : (x y : Bool) (s t : List ℕ) → length s ≡ length t
+    → list_all (λ p. eqb (keyed x p.0) (keyed y p.1)) (zip s t) ≡ same_bytes (cased x s) (cased y t)
+unfolding same_bytes cased folded
+letters_all true true [] [] l = refl
+letters_all true false [] [] l = refl
+letters_all false true [] [] l = refl
+letters_all false false [] [] l = refl
+letters_all x y [] (b ∷ t) l = absurd (omega arith)
+letters_all x y (a ∷ s) [] l = absurd (omega arith)
+letters_all true true (a ∷ s) (b ∷ t) l = ap (λ (r : Bool). eqb (capital a) (capital b) && r) (letters_all true true s t (omega arith))
+letters_all true false (a ∷ s) (b ∷ t) l = ap (λ (r : Bool). eqb (capital a) b && r) (letters_all true false s t (omega arith))
+letters_all false true (a ∷ s) (b ∷ t) l = ap (λ (r : Bool). eqb a (capital b) && r) (letters_all false true s t (omega arith))
+letters_all false false (a ∷ s) (b ∷ t) l = ap (λ (r : Bool). eqb a b && r) (letters_all false false s t (omega arith))

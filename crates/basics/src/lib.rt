@@ -3,11 +3,13 @@
 #![tactic(auto)]
 
 ghost use Rattle.std.specs.Prelude.{◌≡◌, eqb};
+ghost use Rattle.std.specs.List.{list_all, zip};
 ghost use Rattle.law.specs.Words.{capital, same_bytes};
 ghost use Rattle.basics.specs.Integers.{eq_z};
 ghost use Rattle.basics.specs.Letters.{keyed, cased};
 
 // Whether two numbers are the same.
+#[tactic(auto, using(crate::proofs::Integers::bits_same))]
 pub fn same_integers(a: i64, b: i64) -> bool
     ensures { result ≡ eq_z a b }
 {
@@ -15,27 +17,18 @@ pub fn same_integers(a: i64, b: i64) -> bool
 }
 
 // Whether two slices hold the same bytes.
-pub fn same_bytes(a: &[u8], b: &[u8]) -> bool
-    ensures { result ≡ same_bytes a.now b.now }
+#[tactic(auto, using(crate::proofs::Bytes::pointwise_bytes))]
+pub fn same_bytes(s: &[u8], t: &[u8]) -> bool
+    ensures { result ≡ same_bytes s.now t.now }
 {
-    if a.len() != b.len() {
-        return false;
-    }
-    let mut i = 0;
-    while i < a.len() {
-        if a[i] != b[i] {
-            return false;
-        }
-        i += 1;
-    }
-    true
+    s == t
 }
 
 // A letter in capitals.
 pub fn capital_of(b: u8) -> u8
     ensures { result ≡ capital b }
 {
-    if (97 <= b) & (b <= 122) { b - 32 } else { b }
+    b.to_ascii_uppercase()
 }
 
 // A byte in capitals, or as it stands.
@@ -45,26 +38,19 @@ fn letter(b: u8, fold: bool) -> u8
     if fold { capital_of(b) } else { b }
 }
 
-// Whether two bytes are the same, each in capitals or as it stands.
-fn same_letter(a: u8, fold: bool, b: u8, other: bool) -> bool
-    ensures { result ≡ eqb (keyed fold a) (keyed other b) }
+// Whether bytes that stand side by side are the same, each in capitals or as it stands.
+fn same_pairs(a: &[u8], fold: bool, b: &[u8], other: bool) -> bool
+    ensures { result ≡ list_all (λ p. eqb (keyed fold p.0) (keyed other p.1)) (zip a.now b.now) }
 {
-    letter(a, fold) == letter(b, other)
+    a.iter()
+        .zip(b)
+        .all(|(x, y)| letter(*x, fold) == letter(*y, other))
 }
 
 // Whether two slices hold the same bytes, the letters of each in capitals or as they stand.
+#[tactic(auto, using(crate::proofs::Letters::letters_length))]
 pub fn same_letters(a: &[u8], fold: bool, b: &[u8], other: bool) -> bool
     ensures { result ≡ same_bytes (cased fold a.now) (cased other b.now) }
 {
-    if a.len() != b.len() {
-        return false;
-    }
-    let mut i = 0;
-    while i < a.len() {
-        if !same_letter(a[i], fold, b[i], other) {
-            return false;
-        }
-        i += 1;
-    }
-    true
+    (a.len() == b.len()) && same_pairs(a, fold, b, other)
 }

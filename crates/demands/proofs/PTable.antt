@@ -5,6 +5,7 @@ use mathlib.Core.List.{[], ◌∷◌, ◌++◌}
 use mathlib.Core.Bool.{false}
 use lib.IntN.{pos, negsuc}
 use Rattle.basics.specs.Integers.{eq_z}
+use Rattle.law.specs.declared.refusals.Refusal.TheVariants.{NoNumber, TooFine as FineRefusal, BeyondLimit}
 use Rattle.law.specs.Bytes.{permitted, all_of, begins, ascii}
 use Rattle.law.specs.Fields.{field}
 use Rattle.text_fields.specs.FirstField.{span, ends_well, bare_at, field_at, field_of}
@@ -54,12 +55,12 @@ pub p_table :
     × (as_length "1.000010" ≡ good (number (pos 100_001)))
     × (as_length "999999.99999" ≡ good (number (pos largest_length)))
     × (largest_length ≡ 99_999_999_999)
-    × (as_length "1000000" ≡ refused 7)
-    × (as_length "1.000001" ≡ refused 8)
-    × (as_length "5." ≡ refused 7)
-    × (as_length "1e3" ≡ refused 7)
-    × (as_angle "360.00001" ≡ refused 10)
-    × (as_angle "-360" ≡ refused 10)
+    × (as_length "1000000" ≡ refused NoNumber)
+    × (as_length "1.000001" ≡ refused FineRefusal)
+    × (as_length "5." ≡ refused NoNumber)
+    × (as_length "1e3" ≡ refused NoNumber)
+    × (as_angle "360.00001" ≡ refused BeyondLimit)
+    × (as_angle "-360" ≡ refused BeyondLimit)
     × (as_angle "-359.99999" ≡ good (number (negsuc 35_999_998)))
     × (check_reply [] ≡ reply 13 1 0)
     × (check_reply (ascii ".HEADER" ++ (10 ∷ (ascii "LIBRARY_FILE 3.0 s 2024/05/06.07:08:09 1" ++ (10 ∷ (ascii ".END_HEADER" ++ (10 ∷ [])))))) ≡ reply 0 0 3)

@@ -1,5 +1,7 @@
 -- Bytes, numbers and the format's tables: the contract of each public function leaves no choice.
 use mathlib.Core.Path.{refl, sym, ◌∙◌}
+use Rattle.law.proofs.refusals.Refusal.number.Kinds as law_refusals_Refusal_number
+use Rattle.law.proofs.refusals.Refusal.number.Reads as law_refusals_Refusal_number_says
 use Rattle.basics.proofs.same_bytes.Kinds as basics_same_bytes
 use Rattle.basics.proofs.same_bytes.Reads as basics_same_bytes_says
 use Rattle.basics.proofs.same_letters.Kinds as basics_same_letters
@@ -129,6 +131,9 @@ use Rattle.names_slots.proofs.place.Reads as names_slots_place_says
 use Rattle.demands.specs.Tight.{Tight}
 
 -- `basics`
+
+pub tight_law_refusals_Refusal_number : Tight 0 law_refusals_Refusal_number.ps law_refusals_Refusal_number.r law_refusals_Refusal_number_says.Learnt
+tight_law_refusals_Refusal_number κs a r q ws us e f = (e ∙ sym f, refl)
 
 pub tight_basics_same_bytes : Tight 2 basics_same_bytes.ps basics_same_bytes.r basics_same_bytes_says.Learnt
 tight_basics_same_bytes κs a r q ws us e f = (e ∙ sym f, refl)

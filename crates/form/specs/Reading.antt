@@ -1,5 +1,5 @@
 -- What a field, the fields of a record, and a line read as.
-use Rattle.std.specs.Prelude.{ℕ, suc, List, [], ◌∷◌, ◌++◌, true, false, cond, eqb, length}
+use Rattle.std.specs.Prelude.{ℕ, suc, List, [], ◌∷◌, ◌++◌, true, false, cond, eqb, length, ℤ, Option as Maybe, Some, None, Result, Ok, Err}
 use Rattle.std.proofs.Math.Option.{Option, none, some}
 use Rattle.law.specs.Bytes.{permitted, all_of, begins}
 use Rattle.law.specs.Fields.{Field, field}
@@ -7,10 +7,9 @@ use Rattle.text_fields.specs.Fields.{fields_of}
 use Rattle.number.specs.Numbers.{read_number}
 use Rattle.number.specs.Integers.{read_integer}
 use Rattle.law.specs.Dates.{is_date}
-use Rattle.number.specs.declared.NumberAnswer.{NumberAnswer}
-use Rattle.number.specs.declared.NumberAnswer.TheVariants.{Count, NotNumber, TooFine}
-use Rattle.number.specs.declared.WholeAnswer.{WholeAnswer}
-use Rattle.number.specs.declared.WholeAnswer.TheVariants.{Whole, NotInteger}
+use Rattle.number.specs.declared.NumberError.{NumberError}
+use Rattle.number.specs.declared.NumberError.TheVariants.{NotNumber, TooFine}
+use Rattle.number.specs.declared.Integer.{Integer}
 use Rattle.law.specs.Values.{Value, number, word, text}
 use Rattle.form.specs.Values.{Reply, good, refused}
 use Rattle.law.specs.Words.{words_of, prop_word, end_word, same_bytes, folded}
@@ -23,33 +22,35 @@ use Rattle.law.specs.declared.Context.{Context}
 use Rattle.law.specs.declared.Limit.{Limit}
 use Rattle.law.specs.declared.FieldType.{FieldType}
 use Rattle.law.specs.declared.FieldType.TheVariants.{Text as T, Date as D, Integer as I, Number as N, Word as W}
+use Rattle.law.specs.declared.refusals.Refusal.{Refusal}
+use Rattle.law.specs.declared.refusals.Refusal.TheVariants.{ForbiddenByte, BrokenQuoting, Misplaced, FieldCount, NoNumber, TooFine, WrongWord}
 use Rattle.form.specs.declared.Keyword.{Keyword}
 use Rattle.form.specs.declared.Keyword.TheVariants.{Opening, Closing, Unknown}
 
 -- one field: 7 not a number or an integer, 8 too fine, 9 a wrong word, version, date or BOARD, 10 a limit
 
-abbrev pub of_count : Context → Limit → NumberAnswer → Reply Value
-of_count c l (Count z) = cond (within c l z) (good (number z)) (refused (beyond l))
-of_count c l NotNumber = refused 7
-of_count c l TooFine = refused 8
+abbrev pub of_count : Context → Limit → Result ℤ NumberError → Reply Value
+of_count c l (Ok z) = cond (within c l z) (good (number z)) (refused (beyond l))
+of_count c l (Err NotNumber) = refused NoNumber
+of_count c l (Err TooFine) = refused TooFine
 
-abbrev pub of_integer : WholeAnswer → Reply Value
-of_integer (Whole z) = good (number z.0)
-of_integer NotInteger = refused 7
+abbrev pub of_integer : Maybe Integer → Reply Value
+of_integer (Some z) = good (number z.0)
+of_integer None = refused NoNumber
 
 abbrev pub of_place : Option ℕ → Reply Value
-of_place none = refused 9
+of_place none = refused WrongWord
 of_place (some n) = good (word n)
 
 unfoldable pub read_field : Context → FieldType → Field → Reply Value
-read_field c (T k) (field q s) = cond (barred c k (meaning (T k) s)) (refused 9) (good (text (meaning (T k) s)))
-read_field c D (field true s) = refused 9
-read_field c D (field false s) = cond (is_date s) (good (text s)) (refused 9)
-read_field c I (field true s) = refused 7
+read_field c (T k) (field q s) = cond (barred c k (meaning (T k) s)) (refused WrongWord) (good (text (meaning (T k) s)))
+read_field c D (field true s) = refused WrongWord
+read_field c D (field false s) = cond (is_date s) (good (text s)) (refused WrongWord)
+read_field c I (field true s) = refused NoNumber
 read_field c I (field false s) = of_integer (read_integer s)
-read_field c (N l) (field true s) = refused 7
+read_field c (N l) (field true s) = refused NoNumber
 read_field c (N l) (field false s) = of_count c l (read_number (kept c l) (largest l) s)
-read_field c (W l) (field true s) = refused 9
+read_field c (W l) (field true s) = refused WrongWord
 read_field c (W l) (field false s) = of_place (place_of (words_of c.rules l) (folded s))
 
 -- the fields of a record: 6 for their number, then each from the left
@@ -61,18 +62,18 @@ and_then (good v) (good vs) = good (v ∷ vs)
 
 unfoldable pub read_each : Context → List FieldType → List Field → Reply (List Value)
 read_each c [] [] = good []
-read_each c [] (f ∷ fs) = refused 6
-read_each c (t ∷ ts) [] = refused 6
+read_each c [] (f ∷ fs) = refused FieldCount
+read_each c (t ∷ ts) [] = refused FieldCount
 read_each c (t ∷ ts) (f ∷ fs) = and_then (read_field c t f) (read_each c ts fs)
 
 unfoldable pub read_fields : Context → List FieldType → List Field → Reply (List Value)
-read_fields c ts fs = cond (eqb (length fs) (length ts)) (read_each c ts fs) (refused 6)
+read_fields c ts fs = cond (eqb (length fs) (length ts)) (read_each c ts fs) (refused FieldCount)
 
 -- a line by what it is: a comment or blank; refused with 3 or 4; a keyword in capitals and the fields after it; a data line's fields
 
 pub data Line : Type 0 where
   free : Line
-  bad : ℕ → Line
+  bad : Refusal → Line
   key_line : List ℕ → List Field → Line
   data_line : List Field → Line
 
@@ -82,26 +83,26 @@ by_first (field true s ∷ fs) = data_line (field true s ∷ fs)
 by_first (field false s ∷ fs) = cond (begins 46 s) (key_line (folded s) fs) (data_line (field false s ∷ fs))
 
 abbrev pub by_fields : Option (List Field) → Line
-by_fields none = bad 4
+by_fields none = bad BrokenQuoting
 by_fields (some fs) = by_first fs
 
 unfoldable pub line_as : List ℕ → Line
-line_as s = cond (begins 35 s) free (cond (all_of permitted s) (by_fields (fields_of s)) (bad 3))
+line_as s = cond (begins 35 s) free (cond (all_of permitted s) (by_fields (fields_of s)) (bad ForbiddenByte))
 
 -- the fields after what a record's line begins with
 abbrev pub after_prop : List Field → Reply (List Field)
-after_prop [] = refused 5
-after_prop (field true s ∷ fs) = refused 5
-after_prop (field false s ∷ fs) = cond (same_bytes prop_word (folded s)) (good fs) (refused 5)
+after_prop [] = refused Misplaced
+after_prop (field true s ∷ fs) = refused Misplaced
+after_prop (field false s ∷ fs) = cond (same_bytes prop_word (folded s)) (good fs) (refused Misplaced)
 
 abbrev pub after : Front → Line → Reply (List Field)
-after f free = refused 5
+after f free = refused Misplaced
 after f (bad n) = refused n
-after (keyword k) (key_line w fs) = cond (same_bytes (46 ∷ k) w) (good fs) (refused 5)
-after (keyword k) (data_line fs) = refused 5
-after prop (key_line w fs) = refused 5
+after (keyword k) (key_line w fs) = cond (same_bytes (46 ∷ k) w) (good fs) (refused Misplaced)
+after (keyword k) (data_line fs) = refused Misplaced
+after prop (key_line w fs) = refused Misplaced
 after prop (data_line fs) = after_prop fs
-after plain (key_line w fs) = refused 5
+after plain (key_line w fs) = refused Misplaced
 after plain (data_line fs) = good fs
 
 abbrev pub fields_by : Context → List FieldType → Reply (List Field) → Reply (List Value)

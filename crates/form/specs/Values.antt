@@ -1,7 +1,7 @@
 -- What is read, or why it is refused.
-use Rattle.std.specs.Prelude.{ℕ}
+use Rattle.law.specs.declared.refusals.Refusal.{Refusal}
 
--- an answer, or the number of a refusal
+-- an answer, or a refusal
 pub data Reply (A : Type 0) : Type 0 where
   good : A → Reply A
-  refused : ℕ → Reply A
+  refused : Refusal → Reply A

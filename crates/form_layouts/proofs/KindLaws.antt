@@ -1,19 +1,19 @@
 -- Laws of kinds and of the table of layouts.
-use Prim.Native.Nat.{ℕ, zero, suc, ◌+◌, ◌*◌, ◌/◌, ◌-◌, ◌≤◌, ◌<◌}
+use Prim.Native.Nat.{ℕ, zero, suc, ◌+◌, ◌/◌, ◌-◌, ◌≤◌, ◌<◌}
 use mir.Syntax.{w64}
 use mir.Val.{Fits}
 use mathlib.Core.Path.{◌≡◌, refl, ◌∙◌}
 use mathlib.Core.List.{List, [], ◌∷◌}
 use mathlib.Core.Bool.{Bool, true, false, not, ◌&&◌}
 use native.Mathlib.Omega.{arith}
-use borrow.Author.Tests.{le-leb, lt-leb, leb-true, ne_eqb, lt-ltb, le-ltb}
+use borrow.Author.Tests.{le-leb, lt-leb, leb-true, lt-ltb, le-ltb}
 use lib.Dec.{leb, eqb}
 use lib.ListN.{length, get_or, drop}
 use lib.Seq.{drop-cons}
 use native.Mathlib.Numerals.{add-one}
 use Rattle.rows.proofs.EachKind.{each_kind}
 use Rattle.basics.proofs.Bytes.{bytes_true}
-use Rattle.basics.proofs.Tables.{all_below, Missed, past}
+use Rattle.basics.proofs.Tables.{all_below}
 use Rattle.basics.proofs.Bools.{and_left, and_right, same_flag, flag_eq}
 use Rattle.law.specs.Sections.{section_names, sections}
 use Rattle.law.specs.Words.{same_bytes, word_at}
@@ -31,9 +31,9 @@ use Rattle.law.specs.declared.Rules.{Rules}
 use Rattle.law.specs.declared.Rules.TheVariants.{Idf3}
 
 -- ten kinds to a section, and none above
-pub in_section : (v : Rules) (k s : ℕ) → s ≤ 15 → 10 * s ≤ k → k ≤ 10 * s + 9 → s ≡ section_of v k
+pub in_section : (v : Rules) (k : ℕ) → k ≤ last_kind → k / 10 ≡ section_of v k
 unfolding section_of
-in_section Idf3 k s h l u = let e : s ≡ k / 10 = omega arith in rw (le-leb k last_kind (omega arith)) e
+in_section Idf3 k h = rw (le-leb k last_kind h)
 
 pub no_section : (v : Rules) (k : ℕ) → last_kind < k → 0 ≡ section_of v k
 unfolding section_of
@@ -150,32 +150,7 @@ named (W Layers) = refl
 named (W Plates) = refl
 named (W Statuses) = refl
 
-pub limit_last : (n : ℕ) → Missed 0 5 n → Ver ≡ limit_at n
-limit_last n p =
-    let k = past 0 5 n p (omega arith) in
-    rw (ne_eqb n 0 (λ e. omega arith), ne_eqb n 1 (λ e. omega arith), ne_eqb n 2 (λ e. omega arith), ne_eqb n 3 (λ e. omega arith), ne_eqb n 4 (λ e. omega arith))
-
-pub words_last : (n : ℕ) → Missed 0 7 n → Statuses ≡ words_at n
-words_last n p =
-    let k = past 0 7 n p (omega arith) in
-    rw (ne_eqb n 0 (λ e. omega arith), ne_eqb n 1 (λ e. omega arith), ne_eqb n 2 (λ e. omega arith), ne_eqb n 3 (λ e. omega arith), ne_eqb n 4 (λ e. omega arith), ne_eqb n 5 (λ e. omega arith), ne_eqb n 6 (λ e. omega arith))
-
 module _ (b : ℕ) where
-  pub plain_reference : b ≡ 82 → T Reference ≡ plain_named b
-  plain_reference e = rw e
-
-  pub plain_hole : b ≡ 72 → T Hole ≡ plain_named b
-  plain_hole e = rw e
-
-  pub plain_date : b ≡ 68 → D ≡ plain_named b
-  plain_date e = rw e
-
-  pub plain_integer : b ≡ 73 → I ≡ plain_named b
-  plain_integer e = rw e
-
-  pub plain_text : (b ≡ 82 → ⊥) → (b ≡ 72 → ⊥) → (b ≡ 68 → ⊥) → (b ≡ 73 → ⊥) → T Plain ≡ plain_named b
-  plain_text n j m k = rw (ne_eqb b 82 n, ne_eqb b 72 j, ne_eqb b 68 m, ne_eqb b 73 k)
-
   pub named_plain : (t : FieldType) → b < 97 → t ≡ plain_named b → t ≡ type_named b
   unfolding type_named
   named_plain t h e = rw (lt-ltb b 97 h) e

@@ -4,208 +4,99 @@
 ghost use Rattle.std.specs.Prelude.{◌≡◌, ◌+◌, ◌≤◌, ◌<◌, length};
 ghost use Rattle.law.specs.Layouts.{types_of};
 ghost use Rattle.law.specs.Kinds.{section_of};
-ghost use Rattle.form_layouts.specs.Letters.{line_letter, letter_at, row_of, is_kind, type_at, limit_at, words_at, plain_named, type_named, width_of};
+ghost use Rattle.form_layouts.specs.Letters.{letter_at, row_of, is_kind, type_at, limit_at, words_at, plain_named, type_named, width_of};
 
 use law::{FieldType, Limit, Rules, Texts, Words};
 use rows::LAST_KIND;
 
-// The row of each layout: how many fields, and the letter of each field's type.
+// The row of each layout, that of the letter @ first: how many fields, and the letter of each field's type.
 // Letters of types: T text, R reference, H a hole's part, D date, I integer; numbers, in the order of their limits: a length, b length from zero on,
 // c length above zero, d included angle, e rotation, f version; words, in the order of their lists: g file types, h units, i owners,
-// j faces, k sides, l layers, m plates, n statuses.
-const NO_FIELDS: [u8; 8] = *b"0       "; // A a keyword alone, and @ no such kind
+// j faces, k sides, l layers, m plates, n statuses. A static, so that a row is read where it lies and the table is never copied.
+static LAYOUTS: [[u8; 8]; 17] = [
+    *b"0       ", // @ no such kind
+    *b"0       ", // A a keyword alone
+    *b"1i      ", // B an opening line and its owner
+    *b"5gfTDI  ", // C title: file type, version, system, date, file version number
+    *b"2Th     ", // D name, unit
+    *b"1a      ", // E thickness
+    *b"3Tbj    ", // F outline: identifier, thickness, side
+    *b"1l      ", // G layers
+    *b"2kb     ", // H side, height
+    *b"2kT     ", // I side, group
+    *b"7caamHTi", // J hole: diameter, x, y, plating, part, hole type, owner
+    *b"5aaaaT  ", // K note: x, y, height, length, text
+    *b"3TTR    ", // L part: package, part number, reference
+    *b"6aabejn ", // M position: x, y, offset, rotation, side, status
+    *b"4TTha   ", // N component: geometry, part, unit, height
+    *b"4Iaad   ", // O point: label, x, y, angle
+    *b"2TT     ", // P property: name, value
+];
 
-const OWNER: [u8; 8] = *b"1i      "; // B an opening line and its owner
-
-const TITLE: [u8; 8] = *b"5gfTDI  "; // C file type, version, system, date, file version number
-
-const NAME: [u8; 8] = *b"2Th     "; // D name, unit
-
-const THICKNESS: [u8; 8] = *b"1a      "; // E thickness
-
-const OTHER: [u8; 8] = *b"3Tbj    "; // F identifier, thickness, side
-
-const LAYERS: [u8; 8] = *b"1l      "; // G layers
-
-const HEIGHT: [u8; 8] = *b"2kb     "; // H side, height
-
-const GROUP: [u8; 8] = *b"2kT     "; // I side, group
-
-const HOLE: [u8; 8] = *b"7caamHTi"; // J diameter, x, y, plating, part, hole type, owner
-
-const NOTE: [u8; 8] = *b"5aaaaT  "; // K x, y, height, length, text
-
-const PART: [u8; 8] = *b"3TTR    "; // L package, part number, reference
-
-const POSITION: [u8; 8] = *b"6aabejn "; // M x, y, offset, rotation, side, status
-
-const COMPONENT: [u8; 8] = *b"4TTha   "; // N geometry, part, unit, height
-
-const POINT: [u8; 8] = *b"4Iaad   "; // O label, x, y, angle
-
-const PROPERTY: [u8; 8] = *b"2TT     "; // P property: name, value
+// The letter of each line of each section, its opening line first and its closing line last; @ of a line that the section does not have.
+static LINES: [[u8; 10]; 16] = [
+    *b"@@@@@@@@@@", // no section
+    *b"ACD@@@@@@A", // HEADER
+    *b"BEO@@@@@@A", // BOARD_OUTLINE; outlines, keepouts and the region have an owner
+    *b"BEO@@@@@@A", // PANEL_OUTLINE
+    *b"BFO@@@@@@A", // OTHER_OUTLINE
+    *b"BGO@@@@@@A", // ROUTE_OUTLINE
+    *b"BHO@@@@@@A", // PLACE_OUTLINE
+    *b"BGO@@@@@@A", // ROUTE_KEEPOUT
+    *b"BO@@@@@@@A", // VIA_KEEPOUT
+    *b"BHO@@@@@@A", // PLACE_KEEPOUT
+    *b"BIO@@@@@@A", // PLACE_REGION
+    *b"AJ@@@@@@@A", // DRILLED_HOLES
+    *b"AK@@@@@@@A", // NOTES
+    *b"ALM@@@@@@A", // PLACEMENT
+    *b"ANOP@@@@@A", // ELECTRICAL, which has PROP lines
+    *b"ANO@@@@@@A", // MECHANICAL
+];
 
 // The section of a row's kind, 0 where no section has it.
+#[tactic(auto, using(crate::proofs::KindLaws::in_section, crate::proofs::KindLaws::no_section))]
 pub fn section_of(v: Rules, kind: u64) -> u64
     ensures { result ≡ section_of v kind }
 {
     match v {
-        Rules::Idf3 => match kind {
-            10..=19 => 1,
-            20..=29 => 2,
-            30..=39 => 3,
-            40..=49 => 4,
-            50..=59 => 5,
-            60..=69 => 6,
-            70..=79 => 7,
-            80..=89 => 8,
-            90..=99 => 9,
-            100..=109 => 10,
-            110..=119 => 11,
-            120..=129 => 12,
-            130..=139 => 13,
-            140..=149 => 14,
-            150..=159 => 15,
-            _ => 0,
-        },
+        Rules::Idf3 => if kind <= LAST_KIND { kind / 10 } else { 0 },
     }
-}
-
-// The letter of the opening line of a section.
-fn opening_letter(s: u64) -> u8
-    requires { s ≤ 15 }
-    ensures { result ≡ line_letter s 0 }
-{
-    match s {
-        0 => 64,
-        1 => 65, // HEADER
-        2..=10 => 66, // outlines, keepouts and the region have an owner
-        _ => 65,
-    }
-}
-
-// The letter of the first data line of a section.
-fn first_letter(s: u64) -> u8
-    requires { s ≤ 15 }
-    ensures { result ≡ line_letter s 1 }
-{
-    match s {
-        1 => 67, // HEADER
-        2 => 69, // BOARD_OUTLINE
-        3 => 69, // PANEL_OUTLINE
-        4 => 70, // OTHER_OUTLINE
-        5 => 71, // ROUTE_OUTLINE
-        6 => 72, // PLACE_OUTLINE
-        7 => 71, // ROUTE_KEEPOUT
-        8 => 79, // VIA_KEEPOUT
-        9 => 72, // PLACE_KEEPOUT
-        10 => 73, // PLACE_REGION
-        11 => 74, // DRILLED_HOLES
-        12 => 75, // NOTES
-        13 => 76, // PLACEMENT
-        14 => 78, // ELECTRICAL
-        15 => 78, // MECHANICAL
-        _ => 64,
-    }
-}
-
-// The letter of the second data line of a section.
-fn second_letter(s: u64) -> u8
-    requires { s ≤ 15 }
-    ensures { result ≡ line_letter s 2 }
-{
-    match s {
-        1 => 68, // HEADER
-        2 => 79, // BOARD_OUTLINE
-        3 => 79, // PANEL_OUTLINE
-        4 => 79, // OTHER_OUTLINE
-        5 => 79, // ROUTE_OUTLINE
-        6 => 79, // PLACE_OUTLINE
-        7 => 79, // ROUTE_KEEPOUT
-        8 => 64, // VIA_KEEPOUT
-        9 => 79, // PLACE_KEEPOUT
-        10 => 79, // PLACE_REGION
-        11 => 64, // DRILLED_HOLES
-        12 => 64, // NOTES
-        13 => 77, // PLACEMENT
-        14 => 79, // ELECTRICAL
-        15 => 79, // MECHANICAL
-        _ => 64,
-    }
-}
-
-// The letter of the third data line of a section: ELECTRICAL has PROP lines.
-fn third_letter(s: u64) -> u8
-    requires { s ≤ 15 }
-    ensures { result ≡ line_letter s 3 }
-{
-    if s == 14 { 80 } else { 64 }
-}
-
-// The letter of the closing line of a section.
-fn closing_letter(s: u64) -> u8
-    requires { s ≤ 15 }
-    ensures { result ≡ line_letter s 9 }
-{
-    if s == 0 { 64 } else { 65 }
 }
 
 // The letter of a kind's layout.
+#[tactic(auto, using(crate::proofs::TableLaws::letter_none, crate::proofs::TableLaws::letter_there), unfolding(crate::specs::Letters::line_table))]
 fn letter_at(v: Rules, kind: u64) -> u8
     ensures { result ≡ letter_at v kind }
 {
     if LAST_KIND < kind {
-        return 64;
+        return b'@';
     }
-    let s = kind / 10;
-    match kind % 10 {
-        0 => opening_letter(s),
-        1 => first_letter(s),
-        2 => second_letter(s),
-        3 => third_letter(s),
-        9 => closing_letter(s),
-        _ => 64,
-    }
+    LINES[(kind / 10) as usize][(kind % 10) as usize]
 }
 
-// The row of a kind's layout.
+// The row of a kind's layout: letters and no field types, as the statement `tight_form_layouts_row_of` has it.
+#[tactic(auto, using(crate::proofs::TableLaws::row_there, crate::proofs::TableLaws::letter_from, crate::proofs::TableLaws::letter_to), unfolding(crate::specs::Letters::layout_table))]
 pub fn row_of(v: Rules, kind: u64) -> [u8; 8]
     ensures { result ≡ row_of v kind }
 {
-    match letter_at(v, kind) {
-        65 => NO_FIELDS,
-        66 => OWNER,
-        67 => TITLE,
-        68 => NAME,
-        69 => THICKNESS,
-        70 => OTHER,
-        71 => LAYERS,
-        72 => HEIGHT,
-        73 => GROUP,
-        74 => HOLE,
-        75 => NOTE,
-        76 => PART,
-        77 => POSITION,
-        78 => COMPONENT,
-        79 => POINT,
-        80 => PROPERTY,
-        _ => NO_FIELDS,
-    }
+    LAYOUTS[(letter_at(v, kind) - b'@') as usize]
 }
 
 // Whether some section has a kind.
+#[tactic(auto, using(crate::proofs::KindLaws::letter_kind))]
 pub fn is_kind(v: Rules, kind: u64) -> bool
     ensures { result ≡ is_kind v kind }
 {
-    letter_at(v, kind) != 64
+    letter_at(v, kind) != b'@'
 }
 
 // How many fields a line of a kind has, its keyword or PROP left off.
+#[tactic(auto, using(crate::proofs::KindLaws::count_from, crate::proofs::KindLaws::count_is, crate::proofs::KindLaws::count_fits))]
 pub fn field_count(v: Rules, kind: u64) -> usize
     ensures { result ≡ length (types_of v kind) }
 {
     let row = row_of(v, kind);
-    (row[0] - 48) as usize
+    (row[0] - b'0') as usize
 }
 
 // How many columns of a row a field fills.
@@ -221,7 +112,7 @@ pub fn width_of(t: FieldType) -> usize
     }
 }
 
-// A limit by its place among the limits.
+// A limit by its place among the limits: places in the table of letters, which no `TryFrom` would say in fewer lines.
 fn limit_of(n: u8) -> Limit
     ensures { result ≡ limit_at n }
 {
@@ -256,25 +147,26 @@ fn plain_type(letter: u8) -> FieldType
     ensures { result ≡ plain_named letter }
 {
     match letter {
-        82 => FieldType::Text(Texts::Reference),
-        72 => FieldType::Text(Texts::Hole),
-        68 => FieldType::Date,
-        73 => FieldType::Integer,
+        b'R' => FieldType::Text(Texts::Reference),
+        b'H' => FieldType::Text(Texts::Hole),
+        b'D' => FieldType::Date,
+        b'I' => FieldType::Integer,
         _ => FieldType::Text(Texts::Plain),
     }
 }
 
 // The type of a letter; limits and lists follow each other, so that no table of jumps is needed.
+#[tactic(auto, using(crate::proofs::KindLaws::named_plain, crate::proofs::KindLaws::named_number, crate::proofs::KindLaws::named_word))]
 fn type_of(letter: u8) -> FieldType
     ensures { result ≡ type_named letter }
 {
-    if letter < 97 {
+    if letter < b'a' {
         return plain_type(letter);
     }
-    if letter < 103 {
-        return FieldType::Number(limit_of(letter - 97));
+    if letter < b'g' {
+        return FieldType::Number(limit_of(letter - b'a'));
     }
-    FieldType::Word(words_of(letter - 103))
+    FieldType::Word(words_of(letter - b'g'))
 }
 
 // The type of a field of a line of a kind, fields counted from 0, by the row of the kind's layout.

@@ -1,4 +1,4 @@
 pub mod PaddedLaws
 pub mod SeekLaws
-pub mod KeywordLaws
 pub mod RowLaws
+pub mod KeywordLaws

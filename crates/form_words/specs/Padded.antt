@@ -1,12 +1,9 @@
 -- The tables of keywords and words as the code has them: rows padded with spaces; and rows compared with bytes.
-use Rattle.std.specs.Prelude.{ℕ, suc, ◌+◌, ◌-◌, List, [], ◌∷◌, Bool, true, false, cond, not, ◌&&◌, ◌||◌, ltb, eqb, get_or, take, drop}
-use Rattle.std.proofs.Math.Option.{Option, none, some}
+use Rattle.std.specs.Prelude.{ℕ, suc, ◌+◌, ◌-◌, List, [], ◌∷◌, Bool, true, false, cond, not, ◌&&◌, ◌||◌, ltb, eqb, get_or, take, drop, Option, Some, None}
+use Rattle.std.proofs.Math.Option.{Option as Place, none, some}
 use Rattle.law.specs.Bytes.{ascii}
-use Rattle.form_words.specs.declared.WordAnswer.{WordAnswer}
-use Rattle.form_words.specs.declared.WordAnswer.TheVariants.{At, Nowhere}
 use Rattle.form.specs.declared.Keyword.{Keyword}
 use Rattle.form.specs.declared.Keyword.TheVariants.{Closing, Unknown}
-use Rattle.form_words.specs.declared.Span.{Span}
 use Rattle.law.specs.declared.Rules.{Rules}
 use Rattle.law.specs.declared.Rules.TheVariants.{Idf3}
 use Rattle.law.specs.declared.Words.{Words}
@@ -18,6 +15,10 @@ unfoldable pub trimmed : List ℕ → List ℕ
 trimmed [] = []
 trimmed (b ∷ s) = cond (eqb b 32) [] (b ∷ trimmed s)
 
+-- a byte of a row before its padding, and one that is in capitals the same
+abbrev pub agree : ℕ × ℕ → Bool
+agree p = not (eqb p.0 32) && eqb p.0 (capital p.1)
+
 -- bytes that are in capitals those of a padded row
 unfoldable pub matched : List ℕ → List ℕ → Bool
 matched [] [] = true
@@ -25,9 +26,10 @@ matched [] (b ∷ s) = false
 matched (r ∷ row) [] = eqb r 32
 matched (r ∷ row) (b ∷ s) = not (eqb r 32) && (eqb r (capital b) && matched row s)
 
-abbrev pub found : Option ℕ → WordAnswer
-found none = Nowhere
-found (some n) = At n
+-- a place as the code answers it
+abbrev pub found : Place ℕ → Option ℕ
+found none = None
+found (some n) = Some n
 
 -- section names, then their closing forms
 unfoldable pub keyword_table : List (List ℕ)
@@ -94,20 +96,20 @@ word_table =
     ∷ []
 
 -- the number from n on of the first row that matches
-unfoldable pub sought : ℕ → List (List ℕ) → List ℕ → WordAnswer
-sought n [] s = Nowhere
-sought n (r ∷ rows) s = cond (matched r s) (At n) (sought (suc n) rows s)
+unfoldable pub sought : ℕ → List (List ℕ) → List ℕ → Option ℕ
+sought n [] s = None
+sought n (r ∷ rows) s = cond (matched r s) (Some n) (sought (suc n) rows s)
 
--- where a list of words stands in the table
-abbrev pub span_of : Rules → Words → Span
-span_of Idf3 FileTypes = record { first = 0; count = 3 }
-span_of Idf3 Units = record { first = 3; count = 2 }
-span_of Idf3 Owners = record { first = 5; count = 3 }
-span_of Idf3 Faces = record { first = 8; count = 2 }
-span_of Idf3 Sides = record { first = 10; count = 3 }
-span_of Idf3 Layers = record { first = 13; count = 5 }
-span_of Idf3 Plates = record { first = 18; count = 2 }
-span_of Idf3 Statuses = record { first = 20; count = 4 }
+-- the rows of a list of words
+abbrev pub rows_of : Rules → Words → List (List ℕ)
+rows_of Idf3 FileTypes = take 3 (drop 0 word_table)
+rows_of Idf3 Units = take 2 (drop 3 word_table)
+rows_of Idf3 Owners = take 3 (drop 5 word_table)
+rows_of Idf3 Faces = take 2 (drop 8 word_table)
+rows_of Idf3 Sides = take 3 (drop 10 word_table)
+rows_of Idf3 Layers = take 5 (drop 13 word_table)
+rows_of Idf3 Plates = take 2 (drop 18 word_table)
+rows_of Idf3 Statuses = take 4 (drop 20 word_table)
 
 -- a row that holds no word, and one that holds no keyword
 unfoldable pub no_word : List ℕ
@@ -118,7 +120,7 @@ no_keyword = ascii "                    "
 
 -- the row of a word by its place
 unfoldable pub word_row : Rules → Words → ℕ → List ℕ
-word_row v l n = cond (ltb n (span_of v l).count) (get_or word_table ((span_of v l).first + n) []) no_word
+word_row v l n = get_or (rows_of v l) n no_word
 
 -- the row of section s among those from an index on; of its name, and of its closing form
 unfoldable pub keyword_row : ℕ → ℕ → List ℕ
@@ -130,9 +132,9 @@ name_row s = keyword_row 0 s
 abbrev pub closing_row : ℕ → List ℕ
 closing_row s = keyword_row 15 s
 
-abbrev pub closing_by : WordAnswer → Keyword
-closing_by (At n) = Closing (n + 1)
-closing_by Nowhere = Unknown
+abbrev pub closing_by : Option ℕ → Keyword
+closing_by (Some n) = Closing (n + 1)
+closing_by None = Unknown
 
 -- what a keyword without its period does where it does not open a section
 abbrev pub closing_of : List ℕ → Keyword

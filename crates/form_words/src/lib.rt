@@ -4,139 +4,87 @@
 mod keywords;
 mod words;
 
-ghost use Rattle.std.specs.Prelude.{◌≡◌, [], ◌+◌, ◌≤◌, ◌<◌, get_or, take, drop};
+ghost use Rattle.std.specs.Prelude.{◌≡◌, ◌+◌, ◌≤◌};
 ghost use Rattle.form.specs.Compare.{place_of};
-ghost use Rattle.law.specs.Words.{capital, folded, same_bytes, prop_word, words_of};
+ghost use Rattle.law.specs.Words.{folded, same_bytes, prop_word, words_of};
 ghost use Rattle.form.specs.Reading.{keyword_of};
-ghost use Rattle.form_words.specs.Padded.{matched, keyword_table, word_table, sought, found, span_of, word_row, keyword_row, name_row, closing_row, closing_of};
+ghost use Rattle.std.specs.List.{list_all, zip};
+ghost use Rattle.form_words.specs.Padded.{agree, matched, sought, found, rows_of, word_row, keyword_row, name_row, closing_row, closing_of};
 
 use form::Keyword;
+use keywords::{CLOSING_FORMS, KEYWORDS, NAMES};
 use law::{Rules, Words};
+use words::WORDS;
 
-// The place of a word in its list, from 0.
-#[derive(Clone, Copy)]
-pub enum WordAnswer {
-    At(u64),
-    Nowhere,
+// Whether bytes are in capitals those in front of a row, none of which is padding.
+fn agrees(row: &[u8], s: &[u8]) -> bool
+    ensures { result ≡ list_all agree (zip row.now s.now) }
+{
+    row.iter()
+        .zip(s)
+        .all(|(r, b)| *r != b' ' && *r == basics::capital_of(*b))
 }
 
-// Some rows of a table, one after the other.
-#[derive(Clone, Copy)]
-pub struct Span {
-    pub first: usize,
-    pub count: usize,
-}
-
-// Whether bytes are, in any letter case, those of a padded row.
+// Whether bytes are, in any letter case, those of a padded row. A longer row is passed over first: most closing keywords
+// agree in their front.
+#[tactic(auto, using(crate::proofs::PaddedLaws::matching))]
 fn matches(row: &[u8], s: &[u8]) -> bool
     ensures { result ≡ matched row.now s.now }
 {
-    if row.len() < s.len() {
+    let n = s.len();
+    if row.len() < n {
         return false;
     }
-    let mut i = 0;
-    while i < s.len() {
-        let b = basics::capital_of(s[i]);
-        if (row[i] == 32) | (row[i] != b) {
-            return false;
-        }
-        i += 1;
-    }
-    if i == row.len() {
-        return true;
-    }
-    row[i] == 32
-}
-
-// A byte in capitals, 0 where there is none.
-fn byte_at(s: &[u8], at: usize) -> u8
-    ensures { result ≡ capital (get_or s.now at 0) }
-{
-    if s.len() <= at {
-        return 0;
-    }
-    basics::capital_of(s[at])
-}
-
-// Whether bytes are, in any letter case, those of a row of words; b is the first of them, which tells most rows apart.
-fn is_word(i: usize, b: u8, s: &[u8]) -> bool
-    requires { (i < 24) × (b ≡ capital (get_or s.now 0 0)) }
-    ensures { result ≡ matched (get_or word_table i []) s.now }
-{
-    if words::initial_at(i) != b {
+    if n < row.len() && row[n] != b' ' {
         return false;
     }
-    let row = words::row_at(i);
-    matches(&row, s)
+    agrees(row, s)
 }
 
-// The place from 0 of the bytes, in any letter case, among some rows of words.
-fn seek_word(first: usize, count: usize, s: &[u8]) -> WordAnswer
-    requires { first + count ≤ 24 }
-    ensures { result ≡ sought 0 (take count (drop first word_table)) s.now }
+// The place from 0 of the bytes, in any letter case, among some rows.
+fn place_among<const N: usize>(rows: &[[u8; N]], s: &[u8]) -> Option<usize>
+    ensures { result ≡ sought 0 rows.now s.now }
 {
-    let b = byte_at(s, 0);
-    let mut i = 0;
-    while i < count {
-        if is_word(first + i, b, s) {
-            return WordAnswer::At(i as u64);
-        }
-        i += 1;
-    }
-    WordAnswer::Nowhere
+    rows.iter().position(
+        |row: &[u8; N]| -> bool
+            ensures { result ≡ matched row.now s.entry.now }
+        { matches(row, s) },
+    )
 }
 
-// Where a list of words stands in the table.
-fn rows_of(v: Rules, l: Words) -> Span
-    ensures { result ≡ span_of v l }
+// The rows of a list of words.
+fn rows_of(v: Rules, l: Words) -> &'static [[u8; 16]]
+    ensures { result.now ≡ rows_of v l }
 {
     match v {
         Rules::Idf3 => match l {
-            Words::FileTypes => Span { first: 0, count: 3 },
-            Words::Units => Span { first: 3, count: 2 },
-            Words::Owners => Span { first: 5, count: 3 },
-            Words::Faces => Span { first: 8, count: 2 },
-            Words::Sides => Span {
-                first: 10,
-                count: 3,
-            },
-            Words::Layers => Span {
-                first: 13,
-                count: 5,
-            },
-            Words::Plates => Span {
-                first: 18,
-                count: 2,
-            },
-            Words::Statuses => Span {
-                first: 20,
-                count: 4,
-            },
+            Words::FileTypes => &WORDS[0..3],
+            Words::Units => &WORDS[3..5],
+            Words::Owners => &WORDS[5..8],
+            Words::Faces => &WORDS[8..10],
+            Words::Sides => &WORDS[10..13],
+            Words::Layers => &WORDS[13..18],
+            Words::Plates => &WORDS[18..20],
+            Words::Statuses => &WORDS[20..24],
         },
     }
 }
 
-// The place of a bare word, in any letter case, in its list.
-pub fn place_of(v: Rules, l: Words, s: &[u8]) -> WordAnswer
+// The place from 0 of a bare word, in any letter case, in its list.
+pub fn place_of(v: Rules, l: Words, s: &[u8]) -> Option<u64>
     ensures { result ≡ found (place_of (words_of v l) (folded s.now)) }
 {
-    let rows = rows_of(v, l);
-    let first = rows.first;
-    let count = rows.count;
-    seek_word(first, count, s)
+    place_among(rows_of(v, l), s).map(|n| n as u64)
 }
 
 // The row of a word, by its place in its list; a blank one where the list has no such place.
 pub fn word_row(v: Rules, l: Words, n: u64) -> [u8; 16]
     ensures { result ≡ word_row v l n }
 {
-    let rows = rows_of(v, l);
-    let first = rows.first;
-    let count = rows.count;
-    if n < count as u64 {
-        return words::row_at(first + n as usize);
-    }
-    *b"                "
+    rows_of(v, l)
+        .get(n as usize)
+        .copied()
+        .unwrap_or(*b"                ")
 }
 
 // Whether a bare field is, in any letter case, the word before a property's name.
@@ -146,45 +94,13 @@ pub fn is_prop(s: &[u8]) -> bool
     basics::same_letters(b"PROP", false, s, true)
 }
 
-// Whether bytes, in any letter case, are those of a row of keywords; a and b are the first and the fifth, which tell most rows apart.
-fn is_keyword(i: usize, a: u8, b: u8, s: &[u8]) -> bool
-    requires { (i < 30) × (a ≡ capital (get_or s.now 0 0)) × (b ≡ capital (get_or s.now 4 0)) }
-    ensures { result ≡ matched (get_or keyword_table i []) s.now }
-{
-    if keywords::initial_at(i) != a {
-        return false;
-    }
-    if keywords::fifth_at(i) != b {
-        return false;
-    }
-    let row = keywords::row_at(i);
-    matches(&row, s)
-}
-
-// The place from 0 of the bytes, in any letter case, among fifteen rows of keywords.
-fn seek_keyword(first: usize, s: &[u8]) -> WordAnswer
-    requires { first + 15 ≤ 30 }
-    ensures { result ≡ sought 0 (take 15 (drop first keyword_table)) s.now }
-{
-    let a = byte_at(s, 0);
-    let b = byte_at(s, 4);
-    let mut i = 0;
-    while i < 15 {
-        if is_keyword(first + i, a, b, s) {
-            return WordAnswer::At(i as u64);
-        }
-        i += 1;
-    }
-    WordAnswer::Nowhere
-}
-
 // What a keyword does, its period left off, where it does not open a section.
 fn closing(s: &[u8]) -> Keyword
     ensures { result ≡ closing_of s.now }
 {
-    match seek_keyword(keywords::CLOSING_FORMS, s) {
-        WordAnswer::At(n) => Keyword::Closing(n + 1),
-        WordAnswer::Nowhere => Keyword::Unknown,
+    match place_among(&KEYWORDS[CLOSING_FORMS..], s) {
+        Some(n) => Keyword::Closing(n as u64 + 1),
+        None => Keyword::Unknown,
     }
 }
 
@@ -192,12 +108,12 @@ fn closing(s: &[u8]) -> Keyword
 pub fn read_keyword(s: &[u8]) -> Keyword
     ensures { result ≡ keyword_of (folded s.now) }
 {
-    if !text::begins_with(s, 46) {
+    let Some(name) = s.strip_prefix(b".") else {
         return Keyword::Unknown;
-    }
-    match seek_keyword(keywords::NAMES, &s[1..]) {
-        WordAnswer::At(n) => Keyword::Opening(n + 1),
-        WordAnswer::Nowhere => closing(&s[1..]),
+    };
+    match place_among(&KEYWORDS[NAMES..CLOSING_FORMS], name) {
+        Some(n) => Keyword::Opening(n as u64 + 1),
+        None => closing(name),
     }
 }
 
@@ -206,22 +122,22 @@ fn keyword_row(first: usize, s: u64) -> [u8; 20]
     requires { first + 15 ≤ 30 }
     ensures { result ≡ keyword_row first s }
 {
-    if (s == 0) | (15 < s) {
-        return *b"                    ";
+    match s {
+        1..=15 => KEYWORDS[first + s as usize - 1],
+        _ => *b"                    ",
     }
-    keywords::row_at(first + s as usize - 1)
 }
 
 // The row of a section's name.
 pub fn name_row(s: u64) -> [u8; 20]
     ensures { result ≡ name_row s }
 {
-    keyword_row(keywords::NAMES, s)
+    keyword_row(NAMES, s)
 }
 
 // The row of a section's closing form.
 pub fn closing_row(s: u64) -> [u8; 20]
     ensures { result ≡ closing_row s }
 {
-    keyword_row(keywords::CLOSING_FORMS, s)
+    keyword_row(CLOSING_FORMS, s)
 }

@@ -1,5 +1,5 @@
 -- Laws of a library's entries and of what placements need, as the code leaves them.
-use Prim.Native.Nat.{ℕ, ◌-◌, ◌≤◌, ◌<◌}
+use Prim.Native.Nat.{ℕ}
 use mathlib.Core.Path.{◌≡◌, refl, sym, ap, ◌∙◌}
 use mathlib.Core.List.{List}
 use mathlib.Core.Bool.{Bool, true, false, not, ◌&&◌, true≢false, false≢true, and_assoc}
@@ -7,7 +7,6 @@ use mir.Syntax.{w64}
 use mir.Val.{SFits}
 use mir.ValLaws.{to_z-of_z}
 use lib.IntN.{ℤ, pos}
-use lib.ListN.{length}
 use Rattle.law.specs.Kinds.{electrical_kind, mechanical_kind, part_kind}
 use Rattle.rows_texts.specs.Names.{same_names, refers}
 use Rattle.rows.specs.Columns.{kind_column}
@@ -16,11 +15,11 @@ use Rattle.basics.proofs.Integers.{back}
 use Rattle.law.specs.Words.{board_word, no_reference}
 use Rattle.walk.specs.declared.Found.{Found}
 use Rattle.walk.specs.declared.Found.TheVariants.{Row, Nothing, Refused}
-use Rattle.walk.specs.declared.Walk.{Walk}
 use Rattle.walk.specs.declared.Turn.{Turn}
-use Rattle.law.specs.Answers.{limit}
-use Rattle.walk.specs.Walks.{begun, turn_of, stops_by, is_row, Steady, Trace, trace_by, trace_at}
-use Rattle.walk.proofs.WalkLaws.{Going, going_start, going_trace, going_less, going_more, going_end}
+use Rattle.walk.specs.declared.steps.Turns.{Turns}
+use Rattle.walk.specs.Turns.{Took, Over}
+use Rattle.walk.specs.Walks.{begun, stops_by, is_row, Trace, trace_by, trace_at}
+use Rattle.walk.proofs.TurnsLaws.{Left, over_trace, took_left, took_trace}
 use Rattle.judge.specs.Entries.{is_of, is_entry, entry_in, has_entry, lacks_entry, lacks}
 
 -- a row of a kind
@@ -64,24 +63,21 @@ module _ (board library : List ℕ) (k : ℤ) (x : List ℤ) (l : ℕ) (y : List
   entry_none (Refused m) h = refl
 
 -- what is left of a library tells whether it has the entry
-pub record Seeking (board library : List ℕ) (k : ℤ) (x : List ℤ) (w : Walk) (at : ℕ) : Type 0 where
-  pub going : Going library w at
-  pub left : entry_in board library k x (trace_at library w) ≡ has_entry board library k x
+pub record Seeking (board library : List ℕ) (k : ℤ) (x : List ℤ) (v : Turns) : Type 0 where
+  pub of : Left library v
+  pub left : entry_in board library k x (trace_at library v.walk) ≡ has_entry board library k x
 
-pub seek_start : (board library : List ℕ) (k : ℤ) (x : List ℤ) (w : Walk) → length library ≤ limit → w ≡ begun → Seeking board library k x w 0
+pub seek_start : (board library : List ℕ) (k : ℤ) (x : List ℤ) (v : Turns) → v.file.now ≡ library → v.walk ≡ begun → Seeking board library k x v
 unfolding has_entry
-seek_start board library k x w h e = record { going = going_start library w h e; left = rw e }
+seek_start board library k x v f e = record { of = record { of = f }; left = rw e }
 
-module _ (board library : List ℕ) (k : ℤ) (x : List ℤ) (w : Walk) (at : ℕ) (s : Seeking board library k x w at) where
-  pub seek_steady : Steady library w
-  seek_steady = s.going.steady
-
-  module _ (h : at < length library) (t : Turn) (e : t ≡ turn_of library w) where
-    sought : entry_in board library k x (trace_by t.found w.line t.row (trace_at library t.walk)) ≡ has_entry board library k x
-    sought = sym (ap (entry_in board library k x) (going_trace library w at s.going h t e)) ∙ s.left
+module _ (board library : List ℕ) (k : ℤ) (x : List ℤ) (v : Turns) (s : Seeking board library k x v) where
+  module _ (t : Turn) (u : Turns) (o : Took v t u) where
+    sought : entry_in board library k x (trace_by t.found t.line t.row (trace_at library u.walk)) ≡ has_entry board library k x
+    sought = sym (ap (entry_in board library k x) (took_trace library v s.of t u o)) ∙ s.left
 
     stop_none : stops_by t.found ≡ true → false ≡ has_entry board library k x
-    stop_none j = sym (entry_none board library k x w.line t.row (trace_at library t.walk) t.found j) ∙ sought
+    stop_none j = sym (entry_none board library k x t.line t.row (trace_at library u.walk) t.found j) ∙ sought
 
     module _ (z : Bool) (d : z ≡ is_entry board library t k x) where
       here : z ≡ (is_row t.found && (eq_z (kind_column t.row) k && same_names library t.row board x))
@@ -89,35 +85,32 @@ module _ (board library : List ℕ) (k : ℤ) (x : List ℤ) (w : Walk) (at : �
       here = d ∙ and_assoc (is_row t.found) (eq_z (kind_column t.row) k) (same_names library t.row board x)
 
       here_found : z ≡ true → true ≡ has_entry board library k x
-      here_found j = sym (entry_found board library k x w.line t.row (trace_at library t.walk) t.found (sym here ∙ j)) ∙ sought
+      here_found j = sym (entry_found board library k x t.line t.row (trace_at library u.walk) t.found (sym here ∙ j)) ∙ sought
 
-      pub seek_more : (y : Bool) → y ≡ stops_by t.found → y ≡ false → z ≡ false → Seeking board library k x t.walk t.walk.at
+      pub seek_more : (y : Bool) → y ≡ stops_by t.found → y ≡ false → z ≡ false → Seeking board library k x u
       seek_more y i j q = record {
-        going = going_more library w at s.going h t e;
-        left = sym (entry_on board library k x w.line t.row (trace_at library t.walk) t.found (sym i ∙ j) (sym here ∙ q)) ∙ sought;
+        of = took_left library v s.of t u o;
+        left = sym (entry_on board library k x t.line t.row (trace_at library u.walk) t.found (sym i ∙ j) (sym here ∙ q)) ∙ sought;
       }
 
-  pub seek_less : (t : Turn) → at < length library → t ≡ turn_of library w → length library - t.walk.at < length library - at
-  seek_less t h e = going_less library w at s.going h t e
-
-  over_none : length library ≤ at → false ≡ has_entry board library k x
+  over_none : (u : Turns) → Over v u → false ≡ has_entry board library k x
   unfolding entry_in
-  over_none h = sym (ap (entry_in board library k x) (going_end library w at s.going h)) ∙ s.left
+  over_none u o = sym (ap (entry_in board library k x) (over_trace library v s.of u o)) ∙ s.left
 
 -- the loop holds the kind as a word
-module _ (board library : List ℕ) (k : ℤ) (f : SFits w64 k) (x : List ℤ) (w : Walk) (at : ℕ) (s : Seeking board library (back k) x w at) where
+module _ (board library : List ℕ) (k : ℤ) (f : SFits w64 k) (x : List ℤ) (v : Turns) (s : Seeking board library (back k) x v) where
   kind_back : has_entry board library (back k) x ≡ has_entry board library k x
   kind_back = ap (λ (z : ℤ). has_entry board library z x) (to_z-of_z w64 k f)
 
-  module _ (h : at < length library) (t : Turn) (e : t ≡ turn_of library w) where
+  module _ (t : Turn) (u : Turns) (o : Took v t u) where
     pub seek_stop : (y : Bool) → y ≡ stops_by t.found → y ≡ true → false ≡ has_entry board library k x
-    seek_stop y i j = stop_none board library (back k) x w at s h t e (sym i ∙ j) ∙ kind_back
+    seek_stop y i j = stop_none board library (back k) x v s t u o (sym i ∙ j) ∙ kind_back
 
     pub seek_found : (z : Bool) → z ≡ is_entry board library t (back k) x → z ≡ true → true ≡ has_entry board library k x
-    seek_found z d j = here_found board library (back k) x w at s h t e z d j ∙ kind_back
+    seek_found z d j = here_found board library (back k) x v s t u o z d j ∙ kind_back
 
-  pub seek_over : length library ≤ at → false ≡ has_entry board library k x
-  seek_over h = over_none board library (back k) x w at s h ∙ kind_back
+  pub seek_over : (u : Turns) → Over v u → false ≡ has_entry board library k x
+  seek_over u o = over_none board library (back k) x v s u o ∙ kind_back
 
 -- what a placement needs
 module _ (board library : List ℕ) (x : List ℤ) (p : Bool) (e : p ≡ refers board x board_word) where

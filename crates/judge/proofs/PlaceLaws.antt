@@ -1,23 +1,23 @@
 -- Laws of the placements of a board, as the code leaves them.
-use Prim.Native.Nat.{ℕ, ◌+◌, ◌-◌, ◌^◌, ◌≤◌, ◌<◌}
+use Prim.Native.Nat.{ℕ, ◌+◌, ◌^◌, ◌≤◌, ◌<◌}
 use mathlib.Core.Path.{◌≡◌, refl, sym, ap, ◌∙◌}
 use mathlib.Core.List.{List}
 use mathlib.Core.Bool.{Bool, true, false, cond, ◌&&◌, true≢false, false≢true}
 use native.Mathlib.Omega.{arith}
 use borrow.Author.Tests.{lt-ltb}
 use lib.IntN.{ℤ, pos}
-use lib.ListN.{length}
 use Rattle.rows.specs.RowKinds.{is_of_kind}
 use Rattle.law.specs.Kinds.{part_kind}
 use Rattle.rows_texts.specs.Names.{key_of}
 use Rattle.basics.proofs.Bools.{and_right, and_none}
 use Rattle.walk.specs.declared.Found.{Found}
 use Rattle.walk.specs.declared.Found.TheVariants.{Row, Nothing, Refused}
-use Rattle.walk.specs.declared.Walk.{Walk}
 use Rattle.walk.specs.declared.Turn.{Turn}
-use Rattle.law.specs.Answers.{limit, verdict}
-use Rattle.walk.specs.Walks.{begun, turn_of, stops_by, is_row, Steady, Trace, trace_by, trace_at}
-use Rattle.walk.proofs.WalkLaws.{Going, going_start, going_trace, going_past, going_less, going_more, going_end}
+use Rattle.walk.specs.declared.steps.Turns.{Turns}
+use Rattle.walk.specs.Turns.{Took, Over}
+use Rattle.law.specs.Answers.{verdict}
+use Rattle.walk.specs.Walks.{begun, stops_by, is_row, Trace, trace_by, trace_at}
+use Rattle.walk.proofs.TurnsLaws.{Left, left_small, over_trace, took_left, took_past, took_trace}
 use Rattle.law.specs.declared.Verdict.{Verdict}
 use Rattle.judge_stock.specs.Stock.{is_in}
 use Rattle.judge.specs.Entries.{is_of, lacks_entry, lacks}
@@ -104,58 +104,47 @@ module _ (p : List ℤ → Bool) (board library : List ℕ) (n l : ℕ) (y : Lis
   among_none (Refused m) h = refl
 
 -- what is left of a board, behind n placements, gives the verdict of the whole
-pub record Placing (p : List ℤ → Bool) (board library : List ℕ) (w : Walk) (at n : ℕ) : Type 0 where
-  pub going : Going board w at
-  pub few : n ≤ at
-  pub small : length library ≤ limit
-  pub left : among_from p board library n (trace_at board w) ≡ among_of p board library
+pub record Placing (p : List ℤ → Bool) (board library : List ℕ) (v : Turns) (n : ℕ) : Type 0 where
+  pub of : Left board v
+  pub few : n ≤ v.walk.at
+  pub left : among_from p board library n (trace_at board v.walk) ≡ among_of p board library
 
-pub place_start : (p : List ℤ → Bool) (board library : List ℕ) (w : Walk) → length library ≤ limit → length board ≤ limit → w ≡ begun → Placing p board library w 0 0
+pub place_start : (p : List ℤ → Bool) (board library : List ℕ) (v : Turns) → v.file.now ≡ board → v.walk ≡ begun → Placing p board library v 0
 unfolding among_of
-place_start p board library w l h e = record { going = going_start board w h e; few = omega arith; small = l; left = rw e }
+place_start p board library v f e = record { of = record { of = f }; few = omega arith; left = rw e }
 
-module _ (p : List ℤ → Bool) (board library : List ℕ) (w : Walk) (at n : ℕ) (s : Placing p board library w at n) where
-  pub place_steady : Steady board w
-  place_steady = s.going.steady
-
-  pub place_small : length library ≤ limit
-  place_small = s.small
-
+module _ (p : List ℤ → Bool) (board library : List ℕ) (v : Turns) (n : ℕ) (s : Placing p board library v n) where
   pub place_count : n < 2 ^ 62
-  place_count = let a = s.few in let b = s.going.here in let c = s.going.steady.within in let d = s.going.steady.small in omega arith
+  place_count = omega (arith, s.few, left_small board v s.of)
 
-  module _ (h : at < length board) (t : Turn) (e : t ≡ turn_of board w) (y : Bool) (i : y ≡ stops_by t.found) where
-    left_behind : among_from p board library n (trace_by t.found w.line t.row (trace_at board t.walk)) ≡ among_of p board library
-    left_behind = sym (ap (among_from p board library n) (going_trace board w at s.going h t e)) ∙ s.left
+  module _ (t : Turn) (u : Turns) (k : Took v t u) (y : Bool) (i : y ≡ stops_by t.found) where
+    left_behind : among_from p board library n (trace_by t.found t.line t.row (trace_at board u.walk)) ≡ among_of p board library
+    left_behind = sym (ap (among_from p board library n) (took_trace board v s.of t u k)) ∙ s.left
 
-    pub place_stop : (v : Verdict) → y ≡ true → v ≡ verdict 0 0 n 0 → v ≡ among_of p board library
-    place_stop v j k = k ∙ sym (among_none p board library n w.line t.row (trace_at board t.walk) t.found (sym i ∙ j)) ∙ left_behind
+    pub place_stop : (r : Verdict) → y ≡ true → r ≡ verdict 0 0 n 0 → r ≡ among_of p board library
+    place_stop r j h = h ∙ sym (among_none p board library n t.line t.row (trace_at board u.walk) t.found (sym i ∙ j)) ∙ left_behind
 
     module _ (m : ℕ) (c : m ≡ numbered n t) (z : Bool) (d : z ≡ missed p board library t) where
-      pub place_found : (v : Verdict) → z ≡ true → v ≡ verdict 16 0 m 1 → v ≡ among_of p board library
+      pub place_found : (x : ℕ) (r : Verdict) → z ≡ true → x ≡ 16 → r ≡ verdict x 0 m 1 → r ≡ among_of p board library
       unfolding missed lacks is_of numbered
-      place_found v j k =
-          k ∙ ap (λ (a : ℕ). verdict 16 0 a 1) c ∙ sym (among_here p board library n w.line t.row (trace_at board t.walk) t.found (sym d ∙ j)) ∙ left_behind
+      place_found x r j q h =
+          h ∙ rw q (ap (λ (a : ℕ). verdict 16 0 a 1) c ∙ sym (among_here p board library n t.line t.row (trace_at board u.walk) t.found (sym d ∙ j)) ∙ left_behind)
 
-      pub place_more : y ≡ false → z ≡ false → Placing p board library t.walk t.walk.at m
+      pub place_more : y ≡ false → z ≡ false → Placing p board library u m
       unfolding missed lacks is_of numbered
       place_more j q =
-          let a = going_past board w at s.going h t e in
+          let a = took_past board v s.of t u k in
           let b = s.few in
           let f : m ≤ n + 1 = rw c (numbered_few n t) in
           record {
-            going = going_more board w at s.going h t e;
+            of = took_left board v s.of t u k;
             few = omega arith;
-            small = s.small;
             left =
-                ap (λ (a : ℕ). among_from p board library a (trace_at board t.walk)) c
-                ∙ sym (among_on p board library n w.line t.row (trace_at board t.walk) t.found (sym i ∙ j) (sym d ∙ q))
+                ap (λ (a : ℕ). among_from p board library a (trace_at board u.walk)) c
+                ∙ sym (among_on p board library n t.line t.row (trace_at board u.walk) t.found (sym i ∙ j) (sym d ∙ q))
                 ∙ left_behind;
           }
 
-  pub place_less : (t : Turn) → at < length board → t ≡ turn_of board w → length board - t.walk.at < length board - at
-  place_less t h e = going_less board w at s.going h t e
-
-  pub place_over : (v : Verdict) → length board ≤ at → v ≡ verdict 0 0 n 0 → v ≡ among_of p board library
+  pub place_over : (u : Turns) (r : Verdict) → Over v u → r ≡ verdict 0 0 n 0 → r ≡ among_of p board library
   unfolding among_from
-  place_over v h e = e ∙ sym (ap (among_from p board library n) (going_end board w at s.going h)) ∙ s.left
+  place_over u r o e = e ∙ sym (ap (among_from p board library n) (over_trace board v s.of u o)) ∙ s.left

@@ -187,19 +187,13 @@ none_held n i = go (ltb i n) refl
     go true e = get_or-replicate n i 0 0 (ltb-true i n e)
     go false e = get_d_past (empty n) i (rw (empty_length n) (ltb-false i n e))
 
-empty_stocked : (library : List ℕ) (n : ℕ) → looks < n → Stocked library (empty n)
+pub empty_stocked : (library : List ℕ) (n : ℕ) → looks < n → Stocked library (empty n)
 empty_stocked library n h = record {
   room = rw (empty_length n) h;
   has = λ i k board x e. absurd (false≢true (sym (none_shown board library k x) ∙ sym (ap (shows_name board library k x) (none_held n i)) ∙ e));
 }
 
--- as many slots as there are, and more of the library in them
-pub empty_all : (library : List ℕ) → Stocked library (empty 61_440)
-empty_all library = empty_stocked library 61_440 (omega arith)
-
-pub empty_few : (library : List ℕ) → Stocked library (empty 2_048)
-empty_few library = empty_stocked library 2_048 (omega arith)
-
+-- more of the library in them
 pub filled_stocked : (parts part : ℕ) (library places ys : List ℕ) → Stocked library places → ys ≡ stock_of parts part library places → Stocked library ys
 filled_stocked parts part library places ys s e = subst (Stocked library) (sym e) (stock_true parts part library places s)
 

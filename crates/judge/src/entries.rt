@@ -6,7 +6,8 @@ ghost use Rattle.judge.specs.Entries.{is_of, is_entry, has_entry, lacks_entry, l
 ghost use Rattle.judge.specs.Stocked.{Stocked};
 
 use rows::WIDTH;
-use walk::{Turn, steps};
+use walk::Turn;
+use walk::steps::{self, Turns};
 
 // Whether a line is a row of this kind.
 pub fn is_of(t: Turn, kind: i64) -> bool
@@ -36,24 +37,19 @@ fn has_entry(board: &[u8], library: &[u8], kind: i64, x: [i64; WIDTH]) -> bool
     requires { length library.now ≤ limit }
     ensures { result ≡ has_entry board.now library.now kind x }
 {
-    let mut w = steps::begin();
-    let mut at = 0;
-    while at < library.len() {
-        let t = steps::turn(library, w);
-        let found = t.found;
-        if steps::stops(found) {
+    for t in Turns::of(library) {
+        if steps::stops(t.found) {
             return false;
         }
         if is_entry(board, library, t, kind, x) {
             return true;
         }
-        w = t.walk;
-        at = w.at;
     }
     false
 }
 
 // Whether a library has a placement's entry, of this kind; the slots show most, and the library is looked through for the others.
+// Library and slots are two parameters here and below, as they are of `lacks`, whose contract docs/TIGHT.md names.
 fn is_stocked(
     board: &[u8],
     library: &[u8],

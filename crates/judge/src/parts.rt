@@ -2,16 +2,19 @@
 // are slots is gone through in parts, by the hash of their names, and so is the board; the earliest answer is that of them all.
 ghost use Rattle.std.specs.Prelude.{◌≡◌, ◌^◌, ◌≤◌, ◌<◌, length};
 ghost use Rattle.law.specs.Answers.{limit, verdict};
+ghost use Rattle.names_slots.specs.Looks.{looks};
 ghost use Rattle.judge_stock.specs.Stock.{stock_of};
 ghost use Rattle.judge.specs.Stocked.{Stocked};
 ghost use Rattle.judge.specs.Verdicts.{numbered, placed};
 ghost use Rattle.judge.specs.Parts.{asked, asked_from, missed, among_of, sooner, Tells};
 
 use crate::entries;
-use law::{Verdict, refusals};
+use law::Verdict;
+use law::refusals::Refusal;
 use names::SMALL;
 use rows::WIDTH;
-use walk::{Turn, steps};
+use walk::Turn;
+use walk::steps::{self, Turns};
 
 // How many slots there are for a library's components, 480 KiB of them; how many components a part has at most, about; and how
 // many slots are enough for a small library.
@@ -22,6 +25,7 @@ const MANY: u64 = 50_000;
 const FEW: usize = 2_048;
 
 // What came of a part: its verdict; or, where one part would have too many components, how many parts there are to be.
+// No Option or Result: both cases are answers, and a number of parts is neither a verdict that is missing nor an error.
 #[derive(Clone, Copy)]
 enum OfPart {
     Told(Verdict),
@@ -80,21 +84,15 @@ fn placed_by(board: &[u8], library: &[u8], places: &[u64], parts: u64, part: u64
     requires { (length library.now ≤ limit) × (length board.now ≤ limit) × Stocked library.now places.now }
     ensures { result ≡ among_of (asked parts part board.now) board.now library.now }
 {
-    let mut w = steps::begin();
-    let mut at = 0;
     let mut n = 0;
-    while at < board.len() {
-        let t = steps::turn(board, w);
-        let found = t.found;
-        if steps::stops(found) {
+    for t in Turns::of(board) {
+        if steps::stops(t.found) {
             return verdict(0, n, 0);
         }
         n = numbered(n, t);
         if is_missed(board, library, places, t, parts, part) {
-            return verdict(refusals::NO_ENTRY, n, 1);
+            return verdict(Refusal::NoEntry.number(), n, 1);
         }
-        w = t.walk;
-        at = w.at;
     }
     verdict(0, n, 0)
 }
@@ -130,21 +128,12 @@ fn in_slots(board: &[u8], library: &[u8], places: &mut [u64], parts: u64, part: 
     OfPart::Told(placed_by(board, library, places, parts, part))
 }
 
-// The same with few slots, which are empty.
-fn in_few(board: &[u8], library: &[u8], parts: u64, part: u64) -> OfPart
-    requires { (length library.now ≤ limit) × (length board.now ≤ limit) }
+// The same with so many slots, which are empty.
+fn in_empty<const N: usize>(board: &[u8], library: &[u8], parts: u64, part: u64) -> OfPart
+    requires { (length library.now ≤ limit) × (length board.now ≤ limit) × (looks < N) × (N < 2 ^ 60) }
     ensures { Tells parts part board.now library.now result }
 {
-    let mut places: [u64; FEW] = [0; FEW];
-    in_slots(board, library, &mut places, parts, part)
-}
-
-// The same with all slots.
-fn in_all(board: &[u8], library: &[u8], parts: u64, part: u64) -> OfPart
-    requires { (length library.now ≤ limit) × (length board.now ≤ limit) }
-    ensures { Tells parts part board.now library.now result }
-{
-    let mut places: [u64; PLACES] = [0; PLACES];
+    let mut places: [u64; N] = [0; N];
     in_slots(board, library, &mut places, parts, part)
 }
 
@@ -154,9 +143,9 @@ fn of_part(board: &[u8], library: &[u8], parts: u64, part: u64) -> OfPart
     ensures { Tells parts part board.now library.now result }
 {
     if library.len() < SMALL {
-        return in_few(board, library, parts, part);
+        return in_empty::<FEW>(board, library, parts, part);
     }
-    in_all(board, library, parts, part)
+    in_empty::<PLACES>(board, library, parts, part)
 }
 
 // The verdict of a part and of those behind it. It calls itself, so that the compiler neither makes it part of `judge`, which has

@@ -4,10 +4,11 @@ ghost use Rattle.law.specs.Answers.{limit};
 ghost use Rattle.judge.specs.Verdicts.{refused_as, matched, with_library, judge_reply};
 
 use crate::parts;
-use law::{FileType, Reply, Verdict, refusals};
+use law::refusals::Refusal;
+use law::{FileType, Reply, Verdict};
 use read::whole;
 
-// A file's own refusal.
+// A file's own refusal, with its count, which `refused_as` of `same` leaves out.
 fn refused(r: Reply, which: u64) -> Verdict
     ensures { result ≡ refused_as r which }
 {
@@ -25,10 +26,10 @@ fn matched(board: &[u8], t: FileType, library: &[u8], u: FileType) -> Verdict
     ensures { result ≡ matched board.now t library.now u }
 {
     if rows::is_library(t) {
-        return parts::verdict(refusals::WRONG_KIND, 0, 1);
+        return parts::verdict(Refusal::WrongKind.number(), 0, 1);
     }
     if !rows::is_library(u) {
-        return parts::verdict(refusals::WRONG_KIND, 0, 2);
+        return parts::verdict(Refusal::WrongKind.number(), 0, 2);
     }
     parts::placed(board, library)
 }

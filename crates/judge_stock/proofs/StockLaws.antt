@@ -18,11 +18,11 @@ use Rattle.names_slots.specs.Slots.{look_from, holds}
 use Rattle.names_slots.proofs.SlotLaws.{slot_room, placed_length, look_empty, look_hit, look_more, look_over}
 use Rattle.walk.specs.declared.Found.{Found}
 use Rattle.walk.specs.declared.Found.TheVariants.{Row, Nothing, Refused}
-use Rattle.walk.specs.declared.Walk.{Walk}
 use Rattle.walk.specs.declared.Turn.{Turn}
-use Rattle.law.specs.Answers.{limit}
-use Rattle.walk.specs.Walks.{begun, turn_of, stops_by, is_row, Steady, Trace, done, stop, skip, row, trace_by, trace_at, trace_of}
-use Rattle.walk.proofs.WalkLaws.{Going, going_start, going_trace, going_past, going_less, going_more, going_end}
+use Rattle.walk.specs.declared.steps.Turns.{Turns}
+use Rattle.walk.specs.Turns.{Took, Over}
+use Rattle.walk.specs.Walks.{begun, stops_by, is_row, Trace, done, stop, skip, row, trace_by, trace_at, trace_of}
+use Rattle.walk.proofs.TurnsLaws.{Left, left_small, over_trace, took_left, took_past, took_trace}
 use Rattle.judge_stock.specs.Stock.{packed_row, tagged, shows_by, shows_name, is_in, put_name, stocked_row, stocked_by, stock_in, stock_of, counted, components_in, components_of}
 
 -- a hash in a part
@@ -165,75 +165,64 @@ module _ (n l : ℕ) (y : List ℤ) (t : Trace) where
   count_none (Refused m) h = refl
 
 -- what is left of a library, put behind what came, is all of it, and so is the number of its components
-pub record Stocking (parts part : ℕ) (library places₀ places : List ℕ) (w : Walk) (at n : ℕ) : Type 0 where
-  pub going : Going library w at
-  pub left : stock_in parts part library places (trace_at library w) ≡ stock_of parts part library places₀
-  pub count : components_in n (trace_at library w) ≡ components_of library
-  pub few : n ≤ at
+pub record Stocking (parts part : ℕ) (library places₀ places : List ℕ) (v : Turns) (n : ℕ) : Type 0 where
+  pub of : Left library v
+  pub left : stock_in parts part library places (trace_at library v.walk) ≡ stock_of parts part library places₀
+  pub count : components_in n (trace_at library v.walk) ≡ components_of library
+  pub few : n ≤ v.walk.at
   pub room : looks < length places
   pub long : length places ≡ length places₀
 
-pub stock_start : (parts part : ℕ) (library places : List ℕ) (w : Walk) → length library ≤ limit → looks < length places → w ≡ begun → Stocking parts part library places places w 0 0
+pub stock_start : (parts part : ℕ) (library places : List ℕ) (v : Turns) → v.file.now ≡ library → v.walk ≡ begun → looks < length places → Stocking parts part library places places v 0
 unfolding stock_of components_of
-stock_start parts part library places w h k e = record { going = going_start library w h e; left = rw e; count = rw e; few = omega arith; room = k; long = refl }
+stock_start parts part library places v f e k = record { of = record { of = f }; left = rw e; count = rw e; few = omega arith; room = k; long = refl }
 
-module _ (parts part : ℕ) (library places₀ places : List ℕ) (w : Walk) (at n : ℕ) (s : Stocking parts part library places₀ places w at n) where
-  pub stock_steady : Steady library w
-  stock_steady = s.going.steady
-
-  pub stock_room : looks < length places
-  stock_room = s.room
-
-  pub stock_length : length places ≡ length places₀
-  stock_length = s.long
-
+module _ (parts part : ℕ) (library places₀ places : List ℕ) (v : Turns) (n : ℕ) (s : Stocking parts part library places₀ places v n) where
   pub stock_few : n < 2 ^ 62
-  stock_few = let a = s.few in let b = s.going.here in let c = s.going.steady.within in let d = s.going.steady.small in omega arith
+  stock_few = omega (arith, s.few, left_small library v s.of)
 
-  pub stock_less : (t : Turn) → at < length library → t ≡ turn_of library w → length library - t.walk.at < length library - at
-  stock_less t h e = going_less library w at s.going h t e
+  module _ (u : Turns) (o : Over v u) where
+    pub stock_over : places ≡ stock_of parts part library places₀
+    unfolding stock_in
+    stock_over = sym (ap (stock_in parts part library places) (over_trace library v s.of u o)) ∙ s.left
 
-  pub stock_over : length library ≤ at → places ≡ stock_of parts part library places₀
-  unfolding stock_in
-  stock_over h = sym (ap (stock_in parts part library places) (going_end library w at s.going h)) ∙ s.left
+    pub count_over : n ≡ components_of library
+    unfolding components_in
+    count_over = sym (ap (components_in n) (over_trace library v s.of u o)) ∙ s.count
 
-  pub count_over : length library ≤ at → n ≡ components_of library
-  unfolding components_in
-  count_over h = sym (ap (components_in n) (going_end library w at s.going h)) ∙ s.count
+  module _ (t : Turn) (u : Turns) (k : Took v t u) (y : Bool) (i : y ≡ stops_by t.found) where
+    stocked : stock_in parts part library places (trace_by t.found t.line t.row (trace_at library u.walk)) ≡ stock_of parts part library places₀
+    stocked = sym (ap (stock_in parts part library places) (took_trace library v s.of t u k)) ∙ s.left
 
-  module _ (h : at < length library) (t : Turn) (e : t ≡ turn_of library w) (y : Bool) (i : y ≡ stops_by t.found) where
-    stocked : stock_in parts part library places (trace_by t.found w.line t.row (trace_at library t.walk)) ≡ stock_of parts part library places₀
-    stocked = sym (ap (stock_in parts part library places) (going_trace library w at s.going h t e)) ∙ s.left
-
-    counted_all : components_in n (trace_by t.found w.line t.row (trace_at library t.walk)) ≡ components_of library
-    counted_all = sym (ap (components_in n) (going_trace library w at s.going h t e)) ∙ s.count
+    counted_all : components_in n (trace_by t.found t.line t.row (trace_at library u.walk)) ≡ components_of library
+    counted_all = sym (ap (components_in n) (took_trace library v s.of t u k)) ∙ s.count
 
     pub stock_stop : y ≡ true → places ≡ stock_of parts part library places₀
-    stock_stop j = sym (stock_none parts part library places w.line t.row (trace_at library t.walk) t.found (sym i ∙ j)) ∙ stocked
+    stock_stop j = sym (stock_none parts part library places t.line t.row (trace_at library u.walk) t.found (sym i ∙ j)) ∙ stocked
 
     pub count_stop : y ≡ true → n ≡ components_of library
-    count_stop j = sym (count_none n w.line t.row (trace_at library t.walk) t.found (sym i ∙ j)) ∙ counted_all
+    count_stop j = sym (count_none n t.line t.row (trace_at library u.walk) t.found (sym i ∙ j)) ∙ counted_all
 
     pub stock_more : (ys : List ℕ) (m : ℕ) → y ≡ false → ys ≡ stocked_by parts part library places t → m ≡ counted n t
-        → Stocking parts part library places₀ ys t.walk t.walk.at m
+        → Stocking parts part library places₀ ys u m
     unfolding stocked_by counted
-    stock_more ys m j k c =
-        let a = going_past library w at s.going h t e in
+    stock_more ys m j h c =
+        let a = took_past library v s.of t u k in
         let b = s.few in
         let f : m ≤ n + 1 = rw c (counted_few n t) in
         record {
-          going = going_more library w at s.going h t e;
+          of = took_left library v s.of t u k;
           left =
-              ap (λ (z : List ℕ). stock_in parts part library z (trace_at library t.walk)) k
-              ∙ sym (stock_on parts part library places w.line t.row (trace_at library t.walk) t.found (sym i ∙ j))
+              ap (λ (z : List ℕ). stock_in parts part library z (trace_at library u.walk)) h
+              ∙ sym (stock_on parts part library places t.line t.row (trace_at library u.walk) t.found (sym i ∙ j))
               ∙ stocked;
           count =
-              ap (λ (z : ℕ). components_in z (trace_at library t.walk)) c
-              ∙ sym (count_on n w.line t.row (trace_at library t.walk) t.found (sym i ∙ j))
+              ap (λ (z : ℕ). components_in z (trace_at library u.walk)) c
+              ∙ sym (count_on n t.line t.row (trace_at library u.walk) t.found (sym i ∙ j))
               ∙ counted_all;
           few = omega arith;
-          room = rw (ap length k ∙ by_length parts part library places t) s.room;
-          long = ap length k ∙ by_length parts part library places t ∙ s.long;
+          room = rw (ap length h ∙ by_length parts part library places t) s.room;
+          long = ap length h ∙ by_length parts part library places t ∙ s.long;
         }
 
 -- a look for a placement

@@ -35,7 +35,8 @@ ghost use Rattle.judge_stock.specs.Stock.{code_for, pack_of, packed_row, is_name
 use names_slots::LOOKS;
 use rows::{ELECTRICAL, GEOMETRY, GEOMETRY_LEN, MECHANICAL, PART_NUMBER, PART_NUMBER_LEN, WIDTH};
 use rows_texts::hash_name;
-use walk::{Turn, steps};
+use walk::Turn;
+use walk::steps::{self, Turns};
 
 // The code of a kind: an electrical or a mechanical component.
 fn code_for(mechanical: bool) -> u64
@@ -225,19 +226,13 @@ pub fn fill(library: &[u8], parts: u64, part: u64, places: &mut [u64]) -> u64
     ensures value { result ≡ components_of library.now }
     ensures places_after { places.new ≡ stock_of parts part library.now places.old }
 {
-    let mut w = steps::begin();
-    let mut at = 0;
     let mut n = 0;
-    while at < library.len() {
-        let t = steps::turn(library, w);
-        let found = t.found;
-        if steps::stops(found) {
+    for t in Turns::of(library) {
+        if steps::stops(t.found) {
             return n;
         }
         put_turn(library, parts, part, t, places);
         n = counted(n, t);
-        w = t.walk;
-        at = w.at;
     }
     n
 }
@@ -255,8 +250,7 @@ pub fn has_place(
 {
     let h = hash_name(board, x);
     let from = names_slots::slot_of(h, places.len());
-    let mut i = 0;
-    while i < LOOKS {
+    for i in 0..LOOKS {
         let e = places[from + i];
         if e == 0 {
             return false;
@@ -264,7 +258,6 @@ pub fn has_place(
         if shows_name(board, library, h, e, mechanical, x) {
             return true;
         }
-        i += 1;
     }
     false
 }

@@ -20,7 +20,9 @@ use Rattle.law.specs.Numbers.{Digit, one, last, next, with_point, SpellsNumber, 
 use Rattle.law.specs.Dates.{date_pieces, is_two, fits_in, is_date}
 use Rattle.law.specs.Words.{words_of, same_bytes, word_at, named, is_in, folded}
 use Rattle.law.specs.Sections.{sections, section_names}
-use Rattle.law.specs.Kinds.{section_of, line_of, Role, point, role_of}
+use Rattle.law.specs.Kinds.{section_of, line_of, role_of}
+use Rattle.law.specs.declared.Role.{Role}
+use Rattle.law.specs.declared.Role.TheVariants.{Point as point}
 use Rattle.law.specs.Layouts.{plain as data_line_lem, layout_of, types_of}
 use Rattle.law.specs.Values.{Value, word, Rec}
 use Rattle.law.specs.Records.{Place, place_of, angle_of, is_library, shape_of, many_loops, Named, names_a_component}

@@ -4,6 +4,8 @@ use Rattle.std.proofs.Math.Option.{Option, none, some}
 use Rattle.law.specs.Sections.{Shape, header, outline, component, keepout, listing, placements, SectionForm, section_at}
 use Rattle.law.specs.declared.Rules.{Rules}
 use Rattle.law.specs.declared.Rules.TheVariants.{Idf3}
+use Rattle.law.specs.declared.Role.{Role}
+use Rattle.law.specs.declared.Role.TheVariants.{Opening as opening, Closing as closing, Title as title, Name as name, Lead as lead, Point as point, Prop as prop, Entry as entry, Part as part, Position as position, Unknown as unknown}
 
 -- line n of section s; the version's argument is for W-202, whose kinds are others
 unfoldable pub kind_at : Rules → ℕ → ℕ → ℕ
@@ -20,10 +22,6 @@ section_of Idf3 k = cond (leb k last_kind) (k / 10) 0
 -- which line of its section a kind is
 unfoldable pub line_of : Rules → ℕ → ℕ
 line_of Idf3 k = k % 10
-
--- what a line is for, in its section
-pub data Role : Type 0 where
-  opening closing title name lead point prop entry part position unknown : Role
 
 abbrev pub data_role : Shape → ℕ → Role
 data_role header n = cond (eqb n 1) title (cond (eqb n 2) name unknown)

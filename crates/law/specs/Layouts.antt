@@ -4,8 +4,9 @@ use Rattle.std.proofs.Math.Option.{Option, none, some}
 use Rattle.law.specs.Words.{end_word, word_at}
 use Rattle.law.specs.FieldNames.{owner}
 use Rattle.law.specs.Sections.{SectionForm, nth, section_at, section_names}
-use Rattle.law.specs.Kinds as role
-use Rattle.law.specs.Kinds.{section_of, line_of, Role, role_in}
+use Rattle.law.specs.declared.Role.TheVariants as role
+use Rattle.law.specs.Kinds.{section_of, line_of, role_in}
+use Rattle.law.specs.declared.Role.{Role}
 use Rattle.law.specs.declared.Rules.{Rules}
 use Rattle.law.specs.declared.FieldType.{FieldType}
 
@@ -33,17 +34,17 @@ close_word s = end_word ++ open_word s
 
 -- a data line begins with its first field, a property with PROP
 abbrev pub front_of : Role → Front
-front_of role.opening = plain
-front_of role.closing = plain
-front_of role.title = plain
-front_of role.name = plain
-front_of role.lead = plain
-front_of role.point = plain
-front_of role.prop = prop
-front_of role.entry = plain
-front_of role.part = plain
-front_of role.position = plain
-front_of role.unknown = plain
+front_of role.Opening = plain
+front_of role.Closing = plain
+front_of role.Title = plain
+front_of role.Name = plain
+front_of role.Lead = plain
+front_of role.Point = plain
+front_of role.Prop = prop
+front_of role.Entry = plain
+front_of role.Part = plain
+front_of role.Position = plain
+front_of role.Unknown = plain
 
 abbrev pub data_layout : Role → Option (List FieldType) → Option Layout
 data_layout r none = none

@@ -27,6 +27,7 @@ pub mod Rows
 pub mod RowPlaces
 pub mod Printing
 pub mod Canonical
+pub mod Refusals
 pub mod Answers
 pub mod Judging
 pub mod Given

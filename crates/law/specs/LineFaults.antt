@@ -7,7 +7,9 @@ use Rattle.law.specs.Fields.{Field, field, Spelled}
 use Rattle.law.specs.Lines.{Free}
 use Rattle.law.specs.Values.{Rec}
 use Rattle.law.specs.Words.{prop_word}
-use Rattle.law.specs.Kinds.{Role, opening, closing, title, name, lead, point, prop, entry, part, position, unknown, role_of}
+use Rattle.law.specs.Kinds.{role_of}
+use Rattle.law.specs.declared.Role.{Role}
+use Rattle.law.specs.declared.Role.TheVariants.{Opening as opening, Closing as closing, Title as title, Name as name, Lead as lead, Point as point, Prop as prop, Entry as entry, Part as part, Position as position, Unknown as unknown}
 use Rattle.law.specs.Layouts as front
 use Rattle.law.specs.Layouts.{Front, Layout, layout_of, types_of}
 use Rattle.law.specs.Fits.{under}

@@ -2,7 +2,9 @@
 use Rattle.std.specs.Prelude.{ℕ, List, [], ◌∷◌}
 use Rattle.law.specs.Lines.{Free}
 use Rattle.law.specs.Values.{Rec}
-use Rattle.law.specs.Kinds.{Role, opening, closing, title, name, lead, point, prop, entry, part, position, unknown, role_of}
+use Rattle.law.specs.Kinds.{role_of}
+use Rattle.law.specs.declared.Role.{Role}
+use Rattle.law.specs.declared.Role.TheVariants.{Opening as opening, Closing as closing, Title as title, Name as name, Lead as lead, Point as point, Prop as prop, Entry as entry, Part as part, Position as position, Unknown as unknown}
 use Rattle.law.specs.RecordSpelling.{SpellsRecord}
 use Rattle.law.specs.declared.Context.{Context}
 

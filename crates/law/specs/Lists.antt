@@ -5,7 +5,9 @@ use Rattle.std.proofs.Math.IntN.{suc_ℤ}
 use Rattle.law.specs.Bytes.{All}
 use Rattle.law.specs.Values.{Rec}
 use Rattle.law.specs.Sections.{Shape, header, outline, component, keepout, listing, placements}
-use Rattle.law.specs.Kinds.{section_of, Role, opening, closing, title, name, lead, point, prop, entry, part, position, role_of}
+use Rattle.law.specs.Kinds.{section_of, role_of}
+use Rattle.law.specs.declared.Role.{Role}
+use Rattle.law.specs.declared.Role.TheVariants.{Opening as opening, Closing as closing, Title as title, Name as name, Lead as lead, Point as point, Prop as prop, Entry as entry, Part as part, Position as position}
 use Rattle.law.specs.Fits.{under, WellFormed}
 use Rattle.law.specs.Records.{shape_of, many_loops, is_middle, is_component, is_library, Place, label_of, place_of, angle_of, type_in, Named, names_a_component, name_in}
 use Rattle.law.specs.Limits.{whole_turn}

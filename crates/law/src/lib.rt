@@ -24,6 +24,22 @@ pub struct Context {
     pub file: FileType,
 }
 
+// What a line is for, in its section.
+#[derive(Clone, Copy, PartialEq, Eq)]
+pub enum Role {
+    Opening,
+    Closing,
+    Title,
+    Name,
+    Lead,
+    Point,
+    Prop,
+    Entry,
+    Part,
+    Position,
+    Unknown,
+}
+
 // The lists that a word is looked up in.
 #[derive(Clone, Copy)]
 pub enum Words {
@@ -67,6 +83,7 @@ pub enum FieldType {
 }
 
 // What every operation answers: a refusal's number or 0, its line, and a count.
+// C reads these three numbers, so a refusal stands here by its number and not as a `Refusal`.
 #[derive(Clone, Copy)]
 pub struct Reply {
     pub number: u64,
@@ -75,6 +92,7 @@ pub struct Reply {
 }
 
 // What an operation on two files answers: a reply, and which of them was refused, 0 if neither.
+// C reads these four numbers.
 #[derive(Clone, Copy)]
 pub struct Verdict {
     pub number: u64,

@@ -1,35 +1,52 @@
-// The numbers of the refusals, as document 01's table of replies has them; 0 is no refusal.
+// The refusals, and their numbers as document 01's table of replies has them; 0 is no refusal.
+ghost use Rattle.std.specs.Prelude.{◌≡◌};
+ghost use Rattle.law.specs.Refusals.{number_of};
 
-pub const TOO_LARGE: u64 = 1;
+// Why something is refused, in the order of that table.
+#[derive(Clone, Copy, PartialEq, Eq)]
+pub enum Refusal {
+    TooLarge,
+    FewRows,
+    ForbiddenByte,
+    BrokenQuoting,
+    Misplaced,
+    FieldCount,
+    NoNumber,
+    TooFine,
+    WrongWord,
+    BeyondLimit,
+    LoopRule,
+    NameAgain,
+    TooEarly,
+    ShortText,
+    NoList,
+    NoEntry,
+    WrongKind,
+}
 
-pub const FEW_ROWS: u64 = 2;
-
-pub const FORBIDDEN_BYTE: u64 = 3;
-
-pub const BROKEN_QUOTING: u64 = 4;
-
-pub const MISPLACED: u64 = 5;
-
-pub const FIELD_COUNT: u64 = 6;
-
-pub const NO_NUMBER: u64 = 7;
-
-pub const TOO_FINE: u64 = 8;
-
-pub const WRONG_WORD: u64 = 9;
-
-pub const BEYOND_LIMIT: u64 = 10;
-
-pub const LOOP_RULE: u64 = 11;
-
-pub const NAME_AGAIN: u64 = 12;
-
-pub const TOO_EARLY: u64 = 13;
-
-pub const SHORT_TEXT: u64 = 14;
-
-pub const NO_LIST: u64 = 15;
-
-pub const NO_ENTRY: u64 = 16;
-
-pub const WRONG_KIND: u64 = 17;
+impl Refusal {
+    // Its number in that table.
+    pub fn number(self) -> u64
+        ensures { result ≡ number_of self }
+    {
+        match self {
+            Refusal::TooLarge => 1,
+            Refusal::FewRows => 2,
+            Refusal::ForbiddenByte => 3,
+            Refusal::BrokenQuoting => 4,
+            Refusal::Misplaced => 5,
+            Refusal::FieldCount => 6,
+            Refusal::NoNumber => 7,
+            Refusal::TooFine => 8,
+            Refusal::WrongWord => 9,
+            Refusal::BeyondLimit => 10,
+            Refusal::LoopRule => 11,
+            Refusal::NameAgain => 12,
+            Refusal::TooEarly => 13,
+            Refusal::ShortText => 14,
+            Refusal::NoList => 15,
+            Refusal::NoEntry => 16,
+            Refusal::WrongKind => 17,
+        }
+    }
+}

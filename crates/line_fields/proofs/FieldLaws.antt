@@ -1,4 +1,5 @@
 -- Laws by which the code of a field follows its definition.
+use Rattle.std.proofs.Common.{Option as Maybe, Some, None, Result, Ok, Err}
 use Prim.Native.Nat.{ℕ, suc, ◌≤◌}
 use mathlib.Core.Path.{◌≡◌, refl, sym, ◌∙◌}
 use mathlib.Core.List.{List}
@@ -19,10 +20,8 @@ use Rattle.number.specs.Numbers.{read_number}
 use Rattle.number.specs.Integers.{read_integer}
 use Rattle.law.specs.Dates.{is_date}
 use Rattle.number.specs.declared.Integer.{Integer}
-use Rattle.number.specs.declared.NumberAnswer.{NumberAnswer}
-use Rattle.number.specs.declared.NumberAnswer.TheVariants.{Count, NotNumber, TooFine}
-use Rattle.number.specs.declared.WholeAnswer.{WholeAnswer}
-use Rattle.number.specs.declared.WholeAnswer.TheVariants.{Whole, NotInteger}
+use Rattle.number.specs.declared.NumberError.{NumberError}
+use Rattle.number.specs.declared.NumberError.TheVariants.{NotNumber, TooFine}
 use Rattle.law.specs.Values.{number, text}
 use Rattle.form.specs.Values.{good, refused}
 use Rattle.law.specs.Bytes.{ascii}
@@ -47,10 +46,10 @@ use Rattle.law.specs.declared.Texts.{Texts}
 use Rattle.law.specs.declared.Texts.TheVariants.{Plain, Reference, Hole}
 use Rattle.law.specs.declared.FieldType.{FieldType}
 use Rattle.law.specs.declared.FieldType.TheVariants.{Text as T, Date as D, Integer as I, Number as N, Word as W}
-use Rattle.form_words.specs.declared.WordAnswer.{WordAnswer}
-use Rattle.form_words.specs.declared.WordAnswer.TheVariants.{At, Nowhere}
-use Rattle.line_fields.specs.declared.FieldReply.{FieldReply}
-use Rattle.line_fields.specs.declared.FieldReply.TheVariants.{Number, Word, Bytes, Refused}
+use Rattle.law.specs.declared.refusals.Refusal.{Refusal}
+use Rattle.law.specs.declared.refusals.Refusal.TheVariants.{NoNumber, TooFine as FineRefusal, WrongWord}
+use Rattle.line_fields.specs.declared.FieldValue.{FieldValue}
+use Rattle.line_fields.specs.declared.FieldValue.TheVariants.{Number, Word, Bytes}
 
 -- Limits, of a number z that was read back
 pub version_is : (v : Rules) → 300_000 ≡ version_of v
@@ -125,51 +124,51 @@ kept_is c l = refl
 pub largest_fits : (l : Limit) (x : ℕ) → x ≡ largest l → x ≤ largest_length
 largest_fits l x e = rw e (largest_most l)
 
-module _ (c : Context) (l : Limit) (s : List ℕ) (a : NumberAnswer) (n x : ℕ) (k : n ≡ kept c l) (q : x ≡ largest l) (e : a ≡ read_number n x s) where
+module _ (c : Context) (l : Limit) (s : List ℕ) (a : Result ℤ NumberError) (n x : ℕ) (k : n ≡ kept c l) (q : x ≡ largest l) (e : a ≡ read_number n x s) where
   here : a ≡ read_number (kept c l) (largest l) s
   here = rw (k, q) at e
 
-  pub count_not : a ≡ NotNumber → Refused 7 ≡ told_count c l s
+  pub count_not : a ≡ Err NotNumber → Err NoNumber ≡ told_count c l s
   count_not h = rw (sym here ∙ h)
 
-  pub count_fine : a ≡ TooFine → Refused 8 ≡ told_count c l s
+  pub count_fine : a ≡ Err TooFine → Err FineRefusal ≡ told_count c l s
   count_fine h = rw (sym here ∙ h)
 
-  module _ (z : ℤ) (h : a ≡ Count z) (f : SFits w64 z) (r : Bool) (w : r ≡ fits c (N l) (number (back z))) where
+  module _ (z : ℤ) (h : a ≡ Ok z) (f : SFits w64 z) (r : Bool) (w : r ≡ fits c (N l) (number (back z))) where
     -- what was read is not beyond its kind
     limited : r ≡ within c l z
     unfolding fits
     limited = (rw (to_z-of_z w64 z f) at w) ∙ rw (le-leb (nat_abs z) (largest l) (number_small (number_sound (kept c l) (largest l) s (sym here ∙ h))))
 
-    pub count_good : r ≡ true → Number (back z) ≡ told_count c l s
+    pub count_good : r ≡ true → Ok (Number (back z)) ≡ told_count c l s
     count_good t = rw (sym here ∙ h, sym limited ∙ t, to_z-of_z w64 z f)
 
-    pub count_beyond : (y : ℕ) → r ≡ false → y ≡ beyond l → Refused y ≡ told_count c l s
+    pub count_beyond : (y : Refusal) → r ≡ false → y ≡ beyond l → Err y ≡ told_count c l s
     count_beyond y t b = rw (sym here ∙ h, sym limited ∙ t, b)
 
 pub kept_most : (c : Context) (l : Limit) (n : ℕ) → n ≡ kept c l → n ≤ most_decimals
 unfolding kept
 kept_most c l n e = omega arith
 
-module _ (s : List ℕ) (a : WholeAnswer) (e : a ≡ read_integer s) where
-  pub integer_whole : (z : Integer) (n : ℤ) → a ≡ Whole z → n ≡ z.0 → SFits w64 n → Number (back n) ≡ told_integer s
+module _ (s : List ℕ) (a : Maybe Integer) (e : a ≡ read_integer s) where
+  pub integer_whole : (z : Integer) (n : ℤ) → a ≡ Some z → n ≡ z.0 → SFits w64 n → Ok (Number (back n)) ≡ told_integer s
   integer_whole z n h k f = rw (sym e ∙ h, to_z-of_z w64 n f, k)
 
-  pub integer_not : a ≡ NotInteger → Refused 7 ≡ told_integer s
+  pub integer_not : a ≡ None → Err NoNumber ≡ told_integer s
   integer_not h = rw (sym e ∙ h)
 
-module _ (v : Rules) (l : Words) (s : List ℕ) (p : WordAnswer) (e : p ≡ found (place_of (words_of v l) (folded s))) where
-  pub word_at : (n : ℕ) → p ≡ At n → Word n ≡ told_word v l s
+module _ (v : Rules) (l : Words) (s : List ℕ) (p : Maybe ℕ) (e : p ≡ found (place_of (words_of v l) (folded s))) where
+  pub word_at : (n : ℕ) → p ≡ Some n → Ok (Word n) ≡ told_word v l s
   word_at n h = go (place_of (words_of v l) (folded s)) (sym h ∙ e)
     where
-      go : (o : Option ℕ) → At n ≡ found o → Word n ≡ told (of_place o)
+      go : (o : Option ℕ) → Some n ≡ found o → Ok (Word n) ≡ told (of_place o)
       go none e = cc
       go (some m) e = cc
 
-  pub word_not : p ≡ Nowhere → Refused 9 ≡ told_word v l s
+  pub word_not : p ≡ None → Err WrongWord ≡ told_word v l s
   word_not h = go (place_of (words_of v l) (folded s)) (sym h ∙ e)
     where
-      go : (o : Option ℕ) → Nowhere ≡ found o → Refused 9 ≡ told (of_place o)
+      go : (o : Option ℕ) → None ≡ found o → Err WrongWord ≡ told (of_place o)
       go none e = refl
       go (some m) e = cc
 
@@ -179,9 +178,9 @@ module _ (c : Context) (s : List ℕ) (x : Bool) (e : x ≡ is_board c.file) whe
   unfolding barred cased named is_in same_bytes
   barred_by y h i = rw (sym e ∙ h) (i ∙ name_told Reference s board_word refl)
 
-  pub barred_not : x ≡ false → false ≡ barred c Reference (meaning (T Reference) s)
+  pub barred_not : x ≡ false → x ≡ barred c Reference (meaning (T Reference) s)
   unfolding barred
-  barred_not h = rw (sym e ∙ h)
+  barred_not h = h ∙ rw (sym e ∙ h)
 
 -- a text that may name nothing else is never barred
 module _ (c : Context) (k : Texts) (s : List ℕ) where
@@ -197,35 +196,35 @@ module _ (c : Context) (k : Texts) (s : List ℕ) where
   reference_barred r h e = rw h e
 
   module _ (r : Bool) (e : r ≡ barred c k (meaning (T k) s)) where
-    pub text_barred : r ≡ true → Refused 9 ≡ told_text c k s
+    pub text_barred : r ≡ true → Err WrongWord ≡ told_text c k s
     text_barred t = rw (sym e ∙ t)
 
-    pub text_free : r ≡ false → Bytes ≡ told_text c k s
+    pub text_free : r ≡ false → Ok Bytes ≡ told_text c k s
     text_free t = rw (sym e ∙ t)
 
 module _ (s : List ℕ) (r : Bool) (e : r ≡ is_date s) where
-  pub date_good : r ≡ true → Bytes ≡ told_date s
+  pub date_good : r ≡ true → Ok Bytes ≡ told_date s
   date_good t = rw (sym e ∙ t)
 
-  pub date_not : r ≡ false → Refused 9 ≡ told_date s
+  pub date_not : r ≡ false → Err WrongWord ≡ told_date s
   date_not t = rw (sym e ∙ t)
 
 -- A field by its type, bare or quoted
-told_test : (t : Bool) (s : List ℕ) → cond t (Refused 9) Bytes ≡ told (cond t (refused 9) (good (text s)))
+told_test : (t : Bool) (s : List ℕ) → cond t (Err WrongWord) (Ok Bytes) ≡ told (cond t (refused WrongWord) (good (text s)))
 told_test true s = refl
 told_test false s = refl
 
-told_date_lem : (t : Bool) (s : List ℕ) → cond t Bytes (Refused 9) ≡ told (cond t (good (text s)) (refused 9))
+told_date_lem : (t : Bool) (s : List ℕ) → cond t (Ok Bytes) (Err WrongWord) ≡ told (cond t (good (text s)) (refused WrongWord))
 told_date_lem true s = refl
 told_date_lem false s = refl
 
 module _ (c : Context) (t : FieldType) (s : List ℕ) where
   module _ (q : Bool) where
-    pub field_text : (k : Texts) (r : FieldReply) → t ≡ T k → r ≡ told_text c k s → r ≡ told (read_field c t (field q s))
+    pub field_text : (k : Texts) (r : Result FieldValue Refusal) → t ≡ T k → r ≡ told_text c k s → r ≡ told (read_field c t (field q s))
     unfolding read_field
     field_text k r h e = rw h (e ∙ told_test (barred c k (meaning (T k) s)) (meaning (T k) s))
 
-  module _ (r : FieldReply) where
+  module _ (r : Result FieldValue Refusal) where
     pub field_date : t ≡ D → r ≡ told_date s → r ≡ told (read_field c t (field false s))
     unfolding read_field
     field_date h e = rw h (e ∙ told_date_lem (is_date s) s)
@@ -242,25 +241,30 @@ module _ (c : Context) (t : FieldType) (s : List ℕ) where
     unfolding read_field
     field_word l h e = rw h e
 
-  pub quoted_date : t ≡ D → Refused 9 ≡ told (read_field c t (field true s))
+  pub quoted_date : t ≡ D → Err WrongWord ≡ told (read_field c t (field true s))
   unfolding read_field
   quoted_date h = rw h
 
-  pub quoted_integer : t ≡ I → Refused 7 ≡ told (read_field c t (field true s))
+  pub quoted_integer : t ≡ I → Err NoNumber ≡ told (read_field c t (field true s))
   unfolding read_field
   quoted_integer h = rw h
 
-  pub quoted_number : (l : Limit) → t ≡ N l → Refused 7 ≡ told (read_field c t (field true s))
+  pub quoted_number : (l : Limit) → t ≡ N l → Err NoNumber ≡ told (read_field c t (field true s))
   unfolding read_field
   quoted_number l h = rw h
 
-  pub quoted_word : (l : Words) → t ≡ W l → Refused 9 ≡ told (read_field c t (field true s))
+  pub quoted_word : (l : Words) → t ≡ W l → Err WrongWord ≡ told (read_field c t (field true s))
   unfolding read_field
   quoted_word l h = rw h
 
-  module _ (q : Bool) (r : FieldReply) where
+  module _ (q : Bool) (r : Result FieldValue Refusal) where
     pub read_quoted : q ≡ true → r ≡ told (read_field c t (field true s)) → r ≡ told (read_field c t (field q s))
     read_quoted h e = rw h e
 
     pub read_bare : q ≡ false → r ≡ told (read_field c t (field false s)) → r ≡ told (read_field c t (field q s))
     read_bare h e = rw h e
+
+-- what `count_field` cites
+pub ruleset count_laws = (kept_most, largest_fits, count_not, count_fine, count_good, count_beyond)
+
+pub ruleset reference_laws = (barred_by, barred_not)

@@ -12,17 +12,16 @@ ghost use Rattle.form.specs.Fits.{beyond};
 ghost use Rattle.form.specs.Reading.{read_field};
 ghost use Rattle.line_fields.specs.Told.{told, told_count, told_integer, told_word, told_text, told_date};
 
-use form_words::WordAnswer;
-use law::{Context, FieldType, FileType, Limit, Rules, Texts, Words, refusals};
-use number::{Angle, AngleAnswer, Length, LengthAnswer, NumberAnswer, WholeAnswer};
+use law::refusals::Refusal;
+use law::{Context, FieldType, FileType, Limit, Rules, Texts, Words};
+use number::{Angle, Length, NumberError};
 
-// What a field reads as: a number, a word's place, bytes as they stand, or the number of a refusal.
+// What a field reads as: a number, a word's place, or bytes as they stand.
 #[derive(Clone, Copy)]
-pub enum FieldReply {
+pub enum FieldValue {
     Number(i64),
     Word(u64),
     Bytes,
-    Refused(u64),
 }
 
 // The version's number, as a count.
@@ -52,30 +51,21 @@ fn is_version(v: Rules, z: i64) -> bool
 fn is_length(z: i64) -> bool
     ensures { result ≡ leb (nat_abs z) largest_length }
 {
-    match Length::new(z) {
-        LengthAnswer::Made(_) => true,
-        LengthAnswer::Beyond => false,
-    }
+    Length::new(z).is_some()
 }
 
 // Whether a count is that of an angle.
 fn is_angle(z: i64) -> bool
     ensures { result ≡ leb (nat_abs z) largest_angle }
 {
-    match Angle::new(z) {
-        AngleAnswer::Made(_) => true,
-        AngleAnswer::Beyond => false,
-    }
+    Angle::new(z).is_some()
 }
 
 // Whether a count is that of an included angle.
 fn in_turn(z: i64) -> bool
     ensures { result ≡ in_turn z }
 {
-    match Angle::included(z) {
-        AngleAnswer::Made(_) => true,
-        AngleAnswer::Beyond => false,
-    }
+    Angle::included(z).is_some()
 }
 
 // Whether a count is one of its field's kind and within the field's limit.
@@ -88,24 +78,19 @@ pub fn is_within(c: Context, l: Limit, z: i64) -> bool
         Limit::Above => is_length(z) & is_above(z),
         Limit::Included => in_turn(z),
         Limit::Rotation => is_angle(z),
-        Limit::Version => {
-            let v = c.rules;
-            is_version(v, z)
-        }
+        Limit::Version => is_version(c.rules, z),
     }
 }
 
 // The refusal beyond it.
-fn beyond_of(l: Limit) -> u64
+#[tactic(auto, unfolding(form::specs::Fits::beyond))]
+fn beyond_of(l: Limit) -> Refusal
     ensures { result ≡ beyond l }
 {
     match l {
-        Limit::Length => refusals::BEYOND_LIMIT,
-        Limit::NotBelow => refusals::BEYOND_LIMIT,
-        Limit::Above => refusals::BEYOND_LIMIT,
-        Limit::Included => refusals::BEYOND_LIMIT,
-        Limit::Rotation => refusals::BEYOND_LIMIT,
-        Limit::Version => refusals::WRONG_WORD,
+        Limit::Length | Limit::NotBelow | Limit::Above => Refusal::BeyondLimit,
+        Limit::Included | Limit::Rotation => Refusal::BeyondLimit,
+        Limit::Version => Refusal::WrongWord,
     }
 }
 
@@ -121,49 +106,47 @@ fn largest_of(l: Limit) -> u64
     ensures { result ≡ largest l }
 {
     match l {
-        Limit::Length => Length::LARGEST,
-        Limit::NotBelow => Length::LARGEST,
-        Limit::Above => Length::LARGEST,
-        Limit::Included => Angle::LARGEST,
-        Limit::Rotation => Angle::LARGEST,
-        Limit::Version => Length::LARGEST,
+        Limit::Length | Limit::NotBelow | Limit::Above | Limit::Version => Length::LARGEST,
+        Limit::Included | Limit::Rotation => Angle::LARGEST,
     }
 }
 
 // A bare number: 7 where it is none or past its magnitude, 8 where it is too fine, 9 or 10 beyond its limit.
-fn count_field(c: Context, l: Limit, s: &[u8]) -> FieldReply
+#[tactic(auto, using(crate::proofs::FieldLaws::count_laws))]
+fn count_field(c: Context, l: Limit, s: &[u8]) -> Result<FieldValue, Refusal>
     ensures { result ≡ told_count c l s.now }
 {
     match number_read::number(s, kept_of(c, l), largest_of(l)) {
-        NumberAnswer::NotNumber => FieldReply::Refused(refusals::NO_NUMBER),
-        NumberAnswer::TooFine => FieldReply::Refused(refusals::TOO_FINE),
-        NumberAnswer::Count(z) => {
+        Err(NumberError::NotNumber) => Err(Refusal::NoNumber),
+        Err(NumberError::TooFine) => Err(Refusal::TooFine),
+        Ok(z) => {
             if is_within(c, l, z) {
-                FieldReply::Number(z)
+                Ok(FieldValue::Number(z))
             } else {
-                FieldReply::Refused(beyond_of(l))
+                Err(beyond_of(l))
             }
         }
     }
 }
 
 // A bare integer.
-fn integer_field(s: &[u8]) -> FieldReply
+#[tactic(auto, using(crate::proofs::FieldLaws::integer_whole, crate::proofs::FieldLaws::integer_not))]
+fn integer_field(s: &[u8]) -> Result<FieldValue, Refusal>
     ensures { result ≡ told_integer s.now }
 {
     match number_read::integer(s) {
-        WholeAnswer::Whole(z) => FieldReply::Number(z.value()),
-        WholeAnswer::NotInteger => FieldReply::Refused(refusals::NO_NUMBER),
+        Some(z) => Ok(FieldValue::Number(z.value())),
+        None => Err(Refusal::NoNumber),
     }
 }
 
 // A bare word.
-fn word_field(v: Rules, l: Words, s: &[u8]) -> FieldReply
+fn word_field(v: Rules, l: Words, s: &[u8]) -> Result<FieldValue, Refusal>
     ensures { result ≡ told_word v l s.now }
 {
     match form_words::place_of(v, l, s) {
-        WordAnswer::At(n) => FieldReply::Word(n),
-        WordAnswer::Nowhere => FieldReply::Refused(refusals::WRONG_WORD),
+        Some(n) => Ok(FieldValue::Word(n)),
+        None => Err(Refusal::WrongWord),
     }
 }
 
@@ -171,59 +154,52 @@ fn word_field(v: Rules, l: Words, s: &[u8]) -> FieldReply
 fn is_board(f: FileType) -> bool
     ensures { result ≡ is_board f }
 {
-    match f {
-        FileType::Board => true,
-        FileType::Panel => false,
-        FileType::Library => false,
-    }
+    matches!(f, FileType::Board)
 }
 
 // Whether a reference means BOARD, in a board.
+#[tactic(auto, using(crate::proofs::FieldLaws::reference_laws))]
 fn bars_reference(c: Context, s: &[u8]) -> bool
     ensures { result ≡ barred c Reference (meaning (Text Reference) s.now) }
 {
-    let f = c.file;
-    if is_board(f) {
-        return basics::same_letters(s, true, b"BOARD", false);
-    }
-    false
+    is_board(c.file) && basics::same_letters(s, true, b"BOARD", false)
 }
 
 // Whether a text may not stand at its field: BOARD is no reference in a board.
+#[tactic(auto, unfolding(law::specs::Fits::barred))]
 pub fn is_barred(c: Context, k: Texts, s: &[u8]) -> bool
     ensures { result ≡ barred c k (meaning (Text k) s.now) }
 {
     match k {
-        Texts::Plain => false,
+        Texts::Plain | Texts::Hole => false,
         Texts::Reference => bars_reference(c, s),
-        Texts::Hole => false,
     }
 }
 
 // A text.
-fn text_field(c: Context, k: Texts, s: &[u8]) -> FieldReply
+fn text_field(c: Context, k: Texts, s: &[u8]) -> Result<FieldValue, Refusal>
     ensures { result ≡ told_text c k s.now }
 {
     if is_barred(c, k, s) {
-        FieldReply::Refused(refusals::WRONG_WORD)
+        Err(Refusal::WrongWord)
     } else {
-        FieldReply::Bytes
+        Ok(FieldValue::Bytes)
     }
 }
 
 // A bare date.
-fn date_field(s: &[u8]) -> FieldReply
+fn date_field(s: &[u8]) -> Result<FieldValue, Refusal>
     ensures { result ≡ told_date s.now }
 {
     if number_read::is_date(s) {
-        FieldReply::Bytes
+        Ok(FieldValue::Bytes)
     } else {
-        FieldReply::Refused(refusals::WRONG_WORD)
+        Err(Refusal::WrongWord)
     }
 }
 
 // A bare field by its type.
-fn bare_field(c: Context, t: FieldType, s: &[u8]) -> FieldReply
+fn bare_field(c: Context, t: FieldType, s: &[u8]) -> Result<FieldValue, Refusal>
     ensures { result ≡ told (read_field c t (field false s.now)) }
 {
     match t {
@@ -231,28 +207,24 @@ fn bare_field(c: Context, t: FieldType, s: &[u8]) -> FieldReply
         FieldType::Date => date_field(s),
         FieldType::Integer => integer_field(s),
         FieldType::Number(l) => count_field(c, l, s),
-        FieldType::Word(l) => {
-            let v = c.rules;
-            word_field(v, l, s)
-        }
+        FieldType::Word(l) => word_field(c.rules, l, s),
     }
 }
 
 // A quoted field by its type: only texts may be quoted.
-fn quoted_field(c: Context, t: FieldType, s: &[u8]) -> FieldReply
+#[tactic(auto, unfolding(form::specs::Reading::read_field))]
+fn quoted_field(c: Context, t: FieldType, s: &[u8]) -> Result<FieldValue, Refusal>
     ensures { result ≡ told (read_field c t (field true s.now)) }
 {
     match t {
         FieldType::Text(k) => text_field(c, k, s),
-        FieldType::Date => FieldReply::Refused(refusals::WRONG_WORD),
-        FieldType::Integer => FieldReply::Refused(refusals::NO_NUMBER),
-        FieldType::Number(_) => FieldReply::Refused(refusals::NO_NUMBER),
-        FieldType::Word(_) => FieldReply::Refused(refusals::WRONG_WORD),
+        FieldType::Date | FieldType::Word(_) => Err(Refusal::WrongWord),
+        FieldType::Integer | FieldType::Number(_) => Err(Refusal::NoNumber),
     }
 }
 
 // One field by its type, from its bytes without quotes.
-pub fn read_field(c: Context, t: FieldType, s: &[u8], quoted: bool) -> FieldReply
+pub fn read_field(c: Context, t: FieldType, s: &[u8], quoted: bool) -> Result<FieldValue, Refusal>
     ensures { result ≡ told (read_field c t (field quoted s.now)) }
 {
     if quoted {

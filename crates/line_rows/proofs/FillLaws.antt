@@ -1,4 +1,5 @@
 -- Laws of a row as it is filled: what an entry is like by its type, and one field more.
+use Rattle.std.proofs.Common.{Option as Maybe, Some, None, Result, Ok, Err}
 use Prim.Native.Nat.{ℕ, zero, suc, ◌+◌, ◌^◌, ◌≤◌, ◌<◌}
 use mathlib.Core.Path.{◌≡◌, refl, sym, ap, ◌∙◌, subst}
 use mathlib.Core.List.{List, [], ◌∷◌}
@@ -15,17 +16,14 @@ use borrow.Author.Tests.{eq-eqb, ne_eqb}
 use Rattle.basics.proofs.Bools.{none_some}
 use Rattle.basics.proofs.Integers.{back}
 use Rattle.law.specs.Fields.{Field, field}
-use Rattle.text_fields.specs.FirstField.{field_of}
-use Rattle.text_fields.specs.declared.FieldAnswer.{FieldAnswer}
-use Rattle.text_fields.specs.declared.FieldAnswer.TheVariants.{Nothing, Got, Broken}
+use Rattle.text_fields.specs.FirstField.{FirstField, field_of}
 use Rattle.text_fields.proofs.Bounds.{Bounded, bounded}
 use Rattle.number.specs.Numbers.{read_number}
 use Rattle.number.specs.Integers.{read_integer}
 use Rattle.law.specs.Dates.{is_date}
-use Rattle.number.specs.declared.NumberAnswer.{NumberAnswer}
-use Rattle.number.specs.declared.NumberAnswer.TheVariants.{Count, NotNumber, TooFine}
-use Rattle.number.specs.declared.WholeAnswer.{WholeAnswer}
-use Rattle.number.specs.declared.WholeAnswer.TheVariants.{Whole, NotInteger}
+use Rattle.number.specs.declared.NumberError.{NumberError}
+use Rattle.number.specs.declared.NumberError.TheVariants.{NotNumber, TooFine}
+use Rattle.number.specs.declared.Integer.{Integer}
 use Rattle.law.specs.Values.{Value, number, word, text}
 use Rattle.form.specs.Values.{Reply, good, refused}
 use Rattle.law.specs.Words.{words_of, same_bytes, folded}
@@ -36,6 +34,8 @@ use Rattle.form.specs.Reading.{of_count, of_integer, of_place, read_field}
 use Rattle.law.specs.Layouts.{types_of}
 use Rattle.form_layouts.specs.Letters.{width_of, widths, type_at}
 use Rattle.form_layouts.proofs.KindLaws.{nine, type_here, widths_here}
+use Rattle.law.specs.declared.refusals.Refusal.{Refusal}
+use Rattle.law.specs.declared.refusals.Refusal.TheVariants.{WrongWord}
 use Rattle.law.specs.declared.Rules.{Rules}
 use Rattle.law.specs.declared.Rules.TheVariants.{Idf3}
 use Rattle.law.specs.declared.Context.{Context}
@@ -45,9 +45,9 @@ use Rattle.law.specs.declared.Limit.{Limit}
 use Rattle.law.specs.declared.FieldType.{FieldType}
 use Rattle.law.specs.declared.FieldType.TheVariants.{Text as T, Date as D, Integer as I, Number as N, Word as W}
 use Rattle.law.specs.Rows.{width}
-use Rattle.line_rows.specs.Rows.{entry_of, entry_by, entry_at, filling_at, filling_of, put_one, put_refused, put_entry, FieldRoom, fill_from}
+use Rattle.line_rows.specs.Rows.{entry_of, entry_by, entry_at, filling_at, filling_of, filled_as, put_one, put_entry, put_next, FieldRoom, onward, fill_from}
 use Rattle.line_rows.specs.declared.Entry.{Entry}
-use Rattle.line_rows.specs.declared.Entry.TheVariants.{Number, Word, Text, Refused}
+use Rattle.line_rows.specs.declared.Entry.TheVariants.{Number, Word, Text}
 use Rattle.line_rows.specs.declared.Filling.{Filling}
 use Rattle.line_rows.specs.declared.Placed.{Placed}
 
@@ -80,22 +80,22 @@ Wide t (good (word n)) = (width_of t ≡ 1) × (n < 5)
 Wide t (good (text s)) = width_of t ≡ 2
 Wide t (refused n) = Unit {0}
 
-wide_by : (t : FieldType) (b : Bool) (x : Reply Value) (n : ℕ) → Wide t x → Wide t (cond b x (refused n))
+wide_by : (t : FieldType) (b : Bool) (x : Reply Value) (n : Refusal) → Wide t x → Wide t (cond b x (refused n))
 wide_by t true x n h = h
 wide_by t false x n h = tt
 
-wide_unless : (t : FieldType) (b : Bool) (x : Reply Value) (n : ℕ) → Wide t x → Wide t (cond b (refused n) x)
+wide_unless : (t : FieldType) (b : Bool) (x : Reply Value) (n : Refusal) → Wide t x → Wide t (cond b (refused n) x)
 wide_unless t true x n h = tt
 wide_unless t false x n h = h
 
-wide_count : (c : Context) (l : Limit) (a : NumberAnswer) → Wide (N l) (of_count c l a)
-wide_count c l (Count z) = wide_by (N l) (within c l z) (good (number z)) (beyond l) refl
-wide_count c l NotNumber = tt
-wide_count c l TooFine = tt
+wide_count : (c : Context) (l : Limit) (a : Result ℤ NumberError) → Wide (N l) (of_count c l a)
+wide_count c l (Ok z) = wide_by (N l) (within c l z) (good (number z)) (beyond l) refl
+wide_count c l (Err NotNumber) = tt
+wide_count c l (Err TooFine) = tt
 
-wide_integer : (a : WholeAnswer) → Wide I (of_integer a)
-wide_integer (Whole z) = refl
-wide_integer NotInteger = tt
+wide_integer : (a : Maybe Integer) → Wide I (of_integer a)
+wide_integer (Some z) = refl
+wide_integer None = tt
 
 wide_word : (v : Rules) (l : Words) (s : List ℕ) (o : Option ℕ) → place_of (words_of v l) s ≡ o → Wide (W l) (of_place o)
 wide_word v l s none e = tt
@@ -103,9 +103,9 @@ wide_word v l s (some n) e = (refl, omega (arith, place_below (words_of v l) s n
 
 wide : (c : Context) (t : FieldType) (f : Field) → Wide t (read_field c t f)
 unfolding read_field
-wide c (T k) (field q s) = wide_unless (T k) (barred c k (meaning (T k) s)) (good (text (meaning (T k) s))) 9 refl
+wide c (T k) (field q s) = wide_unless (T k) (barred c k (meaning (T k) s)) (good (text (meaning (T k) s))) WrongWord refl
 wide c D (field true s) = tt
-wide c D (field false s) = wide_by D (is_date s) (good (text s)) 9 refl
+wide c D (field false s) = wide_by D (is_date s) (good (text s)) WrongWord refl
 wide c I (field true s) = tt
 wide c I (field false s) = wide_integer (read_integer s)
 wide c (N l) (field true s) = tt
@@ -114,11 +114,11 @@ wide c (W l) (field true s) = tt
 wide c (W l) (field false s) = wide_word c.rules l (folded s) (place_of (words_of c.rules l) (folded s)) refl
 
 -- what an entry is like: as many columns as its type has, and within the line
-abbrev Shaped : FieldType → List ℕ → Entry → Type 0
-Shaped t s (Number z m) = (width_of t ≡ 1) × (m ≤ length s)
-Shaped t s (Word n m) = (width_of t ≡ 1) × (n < 5) × (m ≤ length s)
-Shaped t s (Text a l m) = (width_of t ≡ 2) × (a + l ≤ length s) × (m ≤ length s)
-Shaped t s (Refused n) = Unit {0}
+abbrev Shaped : FieldType → List ℕ → Result Entry Refusal → Type 0
+Shaped t s (Ok (Number z m)) = (width_of t ≡ 1) × (m ≤ length s)
+Shaped t s (Ok (Word n m)) = (width_of t ≡ 1) × (n < 5) × (m ≤ length s)
+Shaped t s (Ok (Text a l m)) = (width_of t ≡ 2) × (a + l ≤ length s) × (m ≤ length s)
+Shaped t s (Err e) = Unit {0}
 
 shaped_of : (t : FieldType) (s : List ℕ) (a l m : ℕ) (x : Reply Value) → a + l ≤ length s → m ≤ length s → Wide t x → Shaped t s (entry_of a l m x)
 shaped_of t s a l m (good (number z)) h k w = (w, k)
@@ -130,52 +130,52 @@ shaped : (c : Context) (t : FieldType) (k : ℕ) (s : List ℕ) → k ≤ length
 unfolding entry_at
 shaped c t k s h = go (field_of (drop k s)) (bounded (drop k s))
   where
-    go : (x : FieldAnswer) → Bounded 0 (length (drop k s)) x → Shaped t s (entry_by c t k (drop k s) x)
-    go Nothing b = tt
-    go (Got a l q m) b =
+    go : (x : FirstField) → Bounded 0 (length (drop k s)) x → Shaped t s (entry_by c t k (drop k s) x)
+    go (Ok None) b = tt
+    go (Ok (Some f)) b =
         let d = length-drop k s in
-        shaped_of t s (k + a) l (k + m) (read_field c t (field q (take l (drop a (drop k s))))) (omega (arith, b.within, b.inside)) (omega (arith, b.within)) (wide c t (field q (take l (drop a (drop k s)))))
-    go Broken b = tt
+        shaped_of t s (k + f.start) f.len (k + f.next) (read_field c t (field f.quoted (take f.len (drop f.start (drop k s))))) (omega (arith, b.within, b.inside)) (omega (arith, b.within)) (wide c t (field f.quoted (take f.len (drop f.start (drop k s)))))
+    go (Err e) b = tt
 
 -- one field more in a row w, at its column j: e is the entry that the line has next, from p on
-module _ (c : Context) (t : FieldType) (s : List ℕ) (b : ℕ) (w : List ℤ) (j p : ℕ) (r : FieldRoom t s b (filling_at w j p)) (e : Entry) (h : e ≡ entry_at c t p s) where
-  like : {x : Entry} → e ≡ x → Shaped t s x
+module _ (c : Context) (t : FieldType) (s : List ℕ) (b : ℕ) (w : List ℤ) (j p : ℕ) (r : FieldRoom t s b (filling_at w j p)) (e : Result Entry Refusal) (h : e ≡ entry_at c t p s) where
+  like : {x : Result Entry Refusal} → e ≡ x → Shaped t s x
   like {x} k = subst (Shaped t s) (sym h ∙ k) (shaped c t p s r.within)
 
-  module _ (z : ℤ) (m : ℕ) (k : e ≡ Number z m) where
+  module _ (z : ℤ) (m : ℕ) (x : Entry) (i : e ≡ Ok x) (k : x ≡ Number z m) where
     pub number_room : length w ≡ width → j < length w
-    number_room l = omega (arith, r.columns, (like k).0)
+    number_room l = omega (arith, r.columns, (like (i ∙ ap Ok k)).0)
 
-    pub number_put : SFits w64 z → (g : Filling) → g ≡ put_one (filling_at w j m) (back z) m → g ≡ put_entry b (filling_at w j p) (entry_at c t p s)
-    number_put i g q = q ∙ rw (to_z-of_z w64 z i, sym h ∙ k)
+    pub number_put : SFits w64 z → (g : Filling) → g ≡ put_one (filling_at w j m) (back z) m → Ok g ≡ put_next b (filling_at w j p) (entry_at c t p s)
+    number_put f g q = rw (q, to_z-of_z w64 z f, sym h ∙ i ∙ ap Ok k)
 
-  module _ (n m : ℕ) (k : e ≡ Word n m) where
+  module _ (n m : ℕ) (x : Entry) (i : e ≡ Ok x) (k : x ≡ Word n m) where
     pub word_fits_lem : SFits w64 (pos n)
-    word_fits_lem = record { sfits = omega (arith, (like k).1) }
+    word_fits_lem = record { sfits = omega (arith, (like (i ∙ ap Ok k)).1) }
 
     pub word_room : length w ≡ width → j < length w
-    word_room l = omega (arith, r.columns, (like k).0)
+    word_room l = omega (arith, r.columns, (like (i ∙ ap Ok k)).0)
 
-    pub word_put : (g : Filling) → g ≡ put_one (filling_at w j m) (to_z w64 n) m → g ≡ put_entry b (filling_at w j p) (entry_at c t p s)
-    word_put g q = q ∙ rw (to_z_pos w64 n (omega (arith, (like k).1)), sym h ∙ k)
+    pub word_put : (g : Filling) → g ≡ put_one (filling_at w j m) (to_z w64 n) m → Ok g ≡ put_next b (filling_at w j p) (entry_at c t p s)
+    word_put g q = rw (q, to_z_pos w64 n (omega (arith, (like (i ∙ ap Ok k)).1)), sym h ∙ i ∙ ap Ok k)
 
-  module _ (a l m : ℕ) (k : e ≡ Text a l m) where
+  module _ (a l m : ℕ) (x : Entry) (i : e ≡ Ok x) (k : x ≡ Text a l m) where
     pub text_fits : Fits w64 (b + a)
-    text_fits = omega (arith, r.small, (like k).1)
+    text_fits = omega (arith, r.small, (like (i ∙ ap Ok k)).1)
 
     pub text_room : length w ≡ width → j + 1 < length w
-    text_room i = omega (arith, r.columns, (like k).0)
+    text_room f = omega (arith, r.columns, (like (i ∙ ap Ok k)).0)
 
     pub text_start : b + a < 2 ^ 63
-    text_start = omega (arith, r.small, (like k).1)
+    text_start = omega (arith, r.small, (like (i ∙ ap Ok k)).1)
 
     pub text_length_lem : l < 2 ^ 63
-    text_length_lem = omega (arith, r.small, (like k).1)
+    text_length_lem = omega (arith, r.small, (like (i ∙ ap Ok k)).1)
 
-    pub text_put : (g : Filling) → g ≡ put_one (put_one (filling_at w j m) (pos (b + a)) m) (pos l) m → g ≡ put_entry b (filling_at w j p) (entry_at c t p s)
-    text_put g q = q ∙ rw (sym h ∙ k)
+    pub text_put : (g : Filling) → g ≡ put_one (put_one (filling_at w j m) (pos (b + a)) m) (pos l) m → Ok g ≡ put_next b (filling_at w j p) (entry_at c t p s)
+    text_put g q = rw (q, sym h ∙ i ∙ ap Ok k)
 
-  pub refused_put : (n : ℕ) → e ≡ Refused n → put_refused (filling_at w j p) n ≡ put_entry b (filling_at w j p) (entry_at c t p s)
+  pub refused_put : (n : Refusal) → e ≡ Err n → Err n ≡ put_next b (filling_at w j p) (entry_at c t p s)
   refused_put n k = rw (sym h ∙ k)
 
 -- an entry put in a row: no more columns than its type has, and a place in the line
@@ -183,11 +183,14 @@ record Put (t : FieldType) (s : List ℕ) (f g : Filling) : Type 0 where
   columns : g.column ≤ f.column + width_of t
   within : g.at ≤ length s
 
-put_like : (t : FieldType) (s : List ℕ) (b : ℕ) (f : Filling) (x : Entry) → f.at ≤ length s → Shaped t s x → Put t s f (put_entry b f x)
+put_like : (t : FieldType) (s : List ℕ) (b : ℕ) (f : Filling) (x : Entry) → f.at ≤ length s → Shaped t s (Ok x) → Put t s f (put_entry b f x)
 put_like t s b f (Number z m) h w = record { columns = omega (arith, w.0); within = w.1 }
 put_like t s b f (Word n m) h w = record { columns = omega (arith, w.0); within = w.2 }
 put_like t s b f (Text a l m) h w = record { columns = omega (arith, w.0); within = w.2 }
-put_like t s b f (Refused n) h w = record { columns = omega arith; within = h }
+
+put_next_like : (t : FieldType) (s : List ℕ) (b : ℕ) (f g : Filling) (x : Result Entry Refusal) → f.at ≤ length s → Shaped t s x → Ok g ≡ put_next b f x → Put t s f g
+put_next_like t s b f g (Ok y) h w e = let z : g ≡ put_entry b f y = cc in rw z (put_like t s b f y h w)
+put_next_like t s b f g (Err i) h w e = cc
 
 -- the loop over a line's fields, from m on into a row u: i of its n fields are in the row w, the next column is j, and the place p
 pub record Fills (c : Context) (k : ℕ) (s : List ℕ) (b m n : ℕ) (u w : List ℤ) (j p i : ℕ) : Type 0 where
@@ -213,7 +216,7 @@ fills_start c k s b m n u e d h l = record {
 }
 
 module _ (c : Context) (k : ℕ) (s : List ℕ) (b m n : ℕ) (u w : List ℤ) (j p i : ℕ) (r : Fills c k s b m n u w j p i) where
-  pub fills_over : n ≤ i → filling_at w j p ≡ fill_from c b s (types_of c.rules k) (filling_at u 1 m)
+  pub fills_over : n ≤ i → Ok (filling_at w j p) ≡ fill_from c b s (types_of c.rules k) (filling_at u 1 m)
   unfolding fill_from
   fills_over h =
       let l : length (types_of c.rules k) ≤ i = omega (arith, r.count) in
@@ -233,17 +236,17 @@ module _ (c : Context) (k : ℕ) (s : List ℕ) (b m n : ℕ) (u w : List ℤ) (
       pub fills_room : FieldRoom t s b (filling_at w j p)
       fills_room = record { columns = rw e (omega (arith, r.columns, widths_here (types_of c.rules k) i fills_type)); within = r.place; small = r.small }
 
-      step : (g : Filling) → g ≡ put_entry b (filling_at w j p) (entry_at c t p s) → fill_from c b s (drop i (types_of c.rules k)) (filling_at w j p) ≡ cond (eqb g.refused 0) (fill_from c b s (drop (i + 1) (types_of c.rules k)) g) g
+      step : (g : Result Filling Refusal) → g ≡ put_next b (filling_at w j p) (entry_at c t p s) → fill_from c b s (drop i (types_of c.rules k)) (filling_at w j p) ≡ onward g (fill_from c b s (drop (i + 1) (types_of c.rules k)))
       unfolding fill_from
       step g d = rw (type_here (types_of c.rules k) i fills_type, d, e)
 
-      module _ (v : List ℤ) (q : Placed) (d : filling_of v q ≡ put_entry b (filling_at w j p) (entry_at c t p s)) where
-        pub fills_refused : (q.refused ≡ 0 → ⊥) → filling_of v q ≡ fill_from c b s (types_of c.rules k) (filling_at u 1 m)
-        fills_refused o = sym (rw (ne_eqb q.refused 0 o) at (step (filling_of v q) d)) ∙ r.left
+      module _ (v : List ℤ) (q : Result Placed Refusal) (d : filled_as v q ≡ put_next b (filling_at w j p) (entry_at c t p s)) where
+        pub fills_refused : (e : Refusal) → q ≡ Err e → Err e ≡ fill_from c b s (types_of c.rules k) (filling_at u 1 m)
+        fills_refused e o = sym (rw o at (step (filled_as v q) d)) ∙ r.left
 
-        pub fills_more : length v ≡ length w → q.refused ≡ 0 → Fills c k s b m n u v q.column q.at (i + 1)
-        fills_more l o =
-            let x : Put t s (filling_at w j p) (filling_of v q) = rw d (put_like t s b (filling_at w j p) (entry_at c t p s) r.place (shaped c t p s r.place)) in
+        pub fills_more : (g : Placed) → length v ≡ length w → q ≡ Ok g → Fills c k s b m n u v g.column g.at (i + 1)
+        fills_more g l o =
+            let x : Put t s (filling_at w j p) (filling_of v g) = put_next_like t s b (filling_at w j p) (filling_of v g) (entry_at c t p s) r.place (shaped c t p s r.place) (sym (ap (filled_as v) o) ∙ d) in
             let y : width_of t ≡ width_of (type_at (types_of c.rules k) i) = ap width_of e in
             record {
               count = r.count;
@@ -253,5 +256,5 @@ module _ (c : Context) (k : ℕ) (s : List ℕ) (b m n : ℕ) (u w : List ℤ) (
               place = x.within;
               small = r.small;
               columns = omega (arith, x.columns, r.columns, widths_here (types_of c.rules k) i fills_type, y);
-              left = sym (rw (eq-eqb q.refused 0 o, o) at (step (filling_of v q) d)) ∙ r.left;
+              left = sym (rw o at (step (filled_as v q) d)) ∙ r.left;
             }

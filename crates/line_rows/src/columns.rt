@@ -2,34 +2,30 @@
 ghost use Rattle.std.specs.Prelude.{◌≡◌, ◌+◌, ◌^◌, ◌≤◌, ◌<◌, pos, length};
 ghost use Rattle.law.specs.Layouts.{types_of};
 ghost use Rattle.law.specs.Rows.{width};
-ghost use Rattle.line_rows.specs.Rows.{entry_at, filling_at, filling_of, put_one, put_entry, FieldRoom, fill_from, filled};
+ghost use Rattle.line_rows.specs.Rows.{entry_at, filling_at, filling_of, filled_as, put_one, put_next, FieldRoom, fill_from, filled};
 
 use crate::{Entry, Filling, Placed};
-use law::{Context, FieldType, refusals};
-use line_fields::FieldReply;
-use text_fields::FieldAnswer;
+use law::refusals::Refusal;
+use law::{Context, FieldType};
+use line_fields::FieldValue;
 
 // The next field of a line from a place on, by its type.
-fn next_entry(c: Context, t: FieldType, s: &[u8], at: usize) -> Entry
+fn next_entry(c: Context, t: FieldType, s: &[u8], at: usize) -> Result<Entry, Refusal>
     requires { at ≤ length s.now }
     ensures { result ≡ entry_at c t at s.now }
 {
     match text_fields::field(&s[at..]) {
-        FieldAnswer::Nothing => Entry::Refused(refusals::FIELD_COUNT),
-        FieldAnswer::Broken => Entry::Refused(refusals::BROKEN_QUOTING),
-        FieldAnswer::Got {
-            start,
-            len,
-            quoted,
-            next,
-        } => {
-            let from = at + start;
-            match line_fields::read_field(c, t, &s[from..from + len], quoted) {
-                FieldReply::Number(z) => Entry::Number(z, at + next),
-                FieldReply::Word(n) => Entry::Word(n, at + next),
-                FieldReply::Bytes => Entry::Text(from, len, at + next),
-                FieldReply::Refused(k) => Entry::Refused(k),
-            }
+        Ok(None) => Err(Refusal::FieldCount),
+        Err(_) => Err(Refusal::BrokenQuoting),
+        Ok(Some(f)) => {
+            let from = at + f.start;
+            Ok(
+                match line_fields::read_field(c, t, &s[from..from + f.len], f.quoted)? {
+                    FieldValue::Number(z) => Entry::Number(z, at + f.next),
+                    FieldValue::Word(n) => Entry::Word(n, at + f.next),
+                    FieldValue::Bytes => Entry::Text(from, f.len, at + f.next),
+                },
+            )
         }
     }
 }
@@ -43,7 +39,6 @@ fn put_one(row: &mut [i64], column: usize, z: i64, at: usize) -> Placed
     Placed {
         column: column + 1,
         at,
-        refused: 0,
     }
 }
 
@@ -57,7 +52,6 @@ fn put_text(row: &mut [i64], column: usize, start: usize, len: usize, at: usize)
     Placed {
         column: column + 2,
         at,
-        refused: 0,
     }
 }
 
@@ -70,62 +64,53 @@ fn put_field(
     row: &mut [i64],
     column: usize,
     at: usize,
-) -> Placed
+) -> Result<Placed, Refusal>
     requires { (length row.old ≡ width) × FieldRoom t s.now base (filling_at row.old column at) }
-    ensures { filling_of row.new result ≡ put_entry base (filling_at row.old column at) (entry_at c t at s.now) }
+    ensures { filled_as row.new result ≡ put_next base (filling_at row.old column at) (entry_at c t at s.now) }
 {
-    match next_entry(c, t, s, at) {
+    Ok(match next_entry(c, t, s, at)? {
         Entry::Number(z, m) => put_one(row, column, z, m),
         Entry::Word(n, m) => put_one(row, column, n as i64, m),
         Entry::Text(a, l, m) => put_text(row, column, base + a, l, m),
-        Entry::Refused(n) => Placed {
-            column,
-            at,
-            refused: n,
-        },
-    }
+    })
 }
 
 // The fields of a line of a kind from a place on into a row whose first column is there, up to the first that is refused.
-fn fill_row(c: Context, kind: u64, s: &[u8], base: usize, row: &mut [i64], from: usize) -> Placed
+fn fill_row(
+    c: Context,
+    kind: u64,
+    s: &[u8],
+    base: usize,
+    row: &mut [i64],
+    from: usize,
+) -> Result<Placed, Refusal>
     requires { (length row.old ≡ width) × (from ≤ length s.now) × (base + length s.now < 2 ^ 62) }
-    ensures { filling_of row.new result ≡ fill_from c base s.now (types_of c.rules kind) (filling_at row.old 1 from) }
+    ensures { filled_as row.new result ≡ fill_from c base s.now (types_of c.rules kind) (filling_at row.old 1 from) }
 {
     let v = c.rules;
     let n = form_layouts::field_count(v, kind);
     let layout = form_layouts::row_of(v, kind);
     let mut column = 1;
     let mut at = from;
-    let mut i = 0;
-    while i < n {
+    for i in 0..n {
         let t = form_layouts::field_type(v, kind, layout, i);
-        let p = put_field(c, t, s, base, row, column, at);
-        let k = p.refused;
-        if k != 0 {
-            return p;
-        }
+        let p = put_field(c, t, s, base, row, column, at)?;
         column = p.column;
         at = p.at;
-        i += 1;
     }
-    Placed {
-        column,
-        at,
-        refused: 0,
-    }
+    Ok(Placed { column, at })
 }
 
 // The row of a line of a kind from a place on, or the refusal of its first bad field; the line starts at `base` in the file.
-pub fn fill(c: Context, kind: u64, s: &[u8], base: usize, from: usize) -> Filling
+pub fn fill(c: Context, kind: u64, s: &[u8], base: usize, from: usize) -> Result<Filling, Refusal>
     requires { (from ≤ length s.now) × (base + length s.now < 2 ^ 62) × (kind < 2 ^ 63) }
     ensures { result ≡ filled c kind base s.now from }
 {
     let mut row = [kind as i64, 0, 0, 0, 0, 0, 0, 0, 0, 0];
-    let p = fill_row(c, kind, s, base, &mut row, from);
-    Filling {
+    let p = fill_row(c, kind, s, base, &mut row, from)?;
+    Ok(Filling {
         row,
         column: p.column,
         at: p.at,
-        refused: p.refused,
-    }
+    })
 }

@@ -4,8 +4,7 @@ ghost use Rattle.text_fields.specs.FirstField.{field_of};
 ghost use Rattle.line_rows.specs.LineKinds.{kind_of, bare_kind, first_by};
 
 use crate::LineKind;
-use law::refusals;
-use text_fields::{CountAnswer, FieldAnswer};
+use law::refusals::Refusal;
 
 // A line by its bare first field, of n fields; the place behind the first is `after`.
 fn bare_kind(w: &[u8], n: usize, after: usize) -> LineKind
@@ -19,39 +18,34 @@ fn bare_kind(w: &[u8], n: usize, after: usize) -> LineKind
 }
 
 // A line of n fields by its first.
-fn first_kind(s: &[u8], n: usize) -> LineKind
+fn first_kind(s: &[u8], n: usize) -> Result<LineKind, Refusal>
     ensures { result ≡ first_by (field_of s.now) s.now n }
 {
     match text_fields::field(s) {
-        FieldAnswer::Nothing => LineKind::Free,
-        FieldAnswer::Broken => LineKind::Bad(refusals::BROKEN_QUOTING),
-        FieldAnswer::Got {
-            start,
-            len,
-            quoted,
-            next,
-        } => {
-            if quoted {
-                LineKind::Data(false, n, next)
+        Ok(None) => Ok(LineKind::Free),
+        Err(_) => Err(Refusal::BrokenQuoting),
+        Ok(Some(f)) => {
+            if f.quoted {
+                Ok(LineKind::Data(false, n, f.next))
             } else {
-                bare_kind(&s[start..start + len], n, next)
+                Ok(bare_kind(&s[f.start..f.start + f.len], n, f.next))
             }
         }
     }
 }
 
-// What a line is.
-pub fn line_kind(s: &[u8]) -> LineKind
+// What a line is, or its refusal: a forbidden byte, broken quoting.
+pub fn line_kind(s: &[u8]) -> Result<LineKind, Refusal>
     ensures { result ≡ kind_of s.now }
 {
     if text::begins_with(s, 35) {
-        return LineKind::Free;
+        return Ok(LineKind::Free);
     }
     if !text::clean(s) {
-        return LineKind::Bad(refusals::FORBIDDEN_BYTE);
+        return Err(Refusal::ForbiddenByte);
     }
     match text_fields::count_fields(s) {
-        CountAnswer::Bad => LineKind::Bad(refusals::BROKEN_QUOTING),
-        CountAnswer::Fields(n) => first_kind(s, n),
+        Ok(n) => first_kind(s, n),
+        Err(_) => Err(Refusal::BrokenQuoting),
     }
 }

@@ -1,5 +1,5 @@
 -- Laws of the marks that the lines of a file leave, of the doubtful names among them, and of the walk that decides on these.
-use Prim.Native.Nat.{ℕ, ◌+◌, ◌-◌, ◌≤◌, ◌<◌}
+use Prim.Native.Nat.{ℕ, ◌≤◌, ◌<◌}
 use mathlib.Core.Path.{◌≡◌, refl, sym, ap, ap₂, ◌∙◌}
 use mathlib.Core.List.{List}
 use mathlib.Core.Bool.{Bool, true, false, cond, ◌&&◌, ◌||◌, true≢false, false≢true, and_assoc}
@@ -16,9 +16,10 @@ use Rattle.walk.specs.declared.Found.{Found}
 use Rattle.walk.specs.declared.Found.TheVariants.{Row, Nothing, Refused}
 use Rattle.walk.specs.declared.Walk.{Walk}
 use Rattle.walk.specs.declared.Turn.{Turn}
-use Rattle.law.specs.Answers.{limit}
-use Rattle.walk.specs.Walks.{begun, turn_of, stops_by, is_row, Steady, Trace, trace_by, trace_at, trace_of}
-use Rattle.walk.proofs.WalkLaws.{Going, going_start, going_trace, going_less, going_more, going_end}
+use Rattle.walk.specs.declared.steps.Turns.{Turns}
+use Rattle.walk.specs.Turns.{Took, Over}
+use Rattle.walk.specs.Walks.{begun, stops_by, is_row, Trace, trace_by, trace_at, trace_of}
+use Rattle.walk.proofs.TurnsLaws.{Left, over_trace, took_left, took_line, took_next, took_trace}
 use Rattle.names.specs.Names.{is_named, used_in, is_used, repeat_in, repeat_of}
 use Rattle.names.specs.Marks.{held_if, marked_if, repeats_among, repeat_among, Telling, Doubted}
 use Rattle.names.proofs.NameLaws.{used_on, used_late, repeat_on}
@@ -32,19 +33,15 @@ pub record Marking (file : List ℕ) (p : ℕ → Bool) (w : Walk) (marks : List
 marking_start : (file : List ℕ) (p : ℕ → Bool) (w : Walk) (marks : List ℕ) → 0 < length marks → w ≡ begun → Marking file p w marks
 marking_start file p w marks l e = record { room = l; clear = λ n x a b c. rw e }
 
-line_on : (file : List ℕ) (w : Walk) (t : Turn) → t ≡ turn_of file w → t.walk.line ≡ w.line + 1
-unfolding turn_of
-line_on file w t e = ap (λ (u : Turn). u.walk.line) e
-
 -- one line more takes no mark away, and marks the name that it has, if it is asked for
-module _ (file : List ℕ) (p : ℕ → Bool) (w : Walk) (at : ℕ) (marks : List ℕ) (s : Marking file p w marks) (g : Going file w at) (h : at < length file) (t : Turn) (e : t ≡ turn_of file w) where
-  marking_tells : (x : List ℤ) → p (key_of file x) ≡ true → may_hold marks (key_of file x) ≡ false → is_used file w.line x ≡ false
+module _ (file : List ℕ) (p : ℕ → Bool) (v : Turns) (marks : List ℕ) (s : Marking file p v.walk marks) (g : Left file v) (t : Turn) (u : Turns) (k : Took v t u) where
+  marking_tells : (x : List ℤ) → p (key_of file x) ≡ true → may_hold marks (key_of file x) ≡ false → is_used file t.line x ≡ false
   marking_tells x a c =
-      sym (s.clear w.line x (omega arith) a c)
-      ∙ ap (used_in file w.line x) (going_trace file w at g h t e)
-      ∙ used_late file w.line w.line x t.row (trace_at file t.walk) t.found (le-ltb w.line w.line (omega arith))
+      sym (s.clear t.line x (omega (arith, took_line file v g t u k)) a c)
+      ∙ ap (used_in file t.line x) (took_trace file v g t u k)
+      ∙ used_late file t.line t.line x t.row (trace_at file u.walk) t.found (le-ltb t.line t.line (omega arith))
 
-  module _ (k : stops_by t.found ≡ false) (b : Bool) (f : is_named t ≡ true → p (key_of file t.row) ≡ true → b ≡ true) where
+  module _ (q : stops_by t.found ≡ false) (b : Bool) (f : is_named t ≡ true → p (key_of file t.row) ≡ true → b ≡ true) where
     module _ (ys : List ℕ) (m : ys ≡ marked_if b marks (key_of file t.row)) where
       clear_here : (x : List ℤ) → p (key_of file x) ≡ true → may_hold ys (key_of file x) ≡ false
           → (is_row t.found && (leads_component t.row && same_names file t.row file x)) ≡ false
@@ -54,15 +51,15 @@ module _ (file : List ℕ) (p : ℕ → Bool) (w : Walk) (at : ℕ) (marks : Lis
           ∙ marked_not b marks ys (key_of file t.row) s.room m (is_row t.found && leads_component t.row) (same_names file t.row file x) (key_of file x)
           (same_key file t.row file x) (λ i j. f i (ap p (same_key file t.row file x j) ∙ a)) c
 
-      marking_more : Marking file p t.walk ys
+      marking_more : Marking file p u.walk ys
       marking_more = record {
         room = rw (marked_if_length b marks ys (key_of file t.row) m) s.room;
         clear = λ n x l a c.
-            let o = line_on file w t e in
-            let i : w.line < n = omega arith in
-            sym (ap (used_in file n x) (going_trace file w at g h t e)
-            ∙ used_on file n w.line x t.row (trace_at file t.walk) t.found k (lt-ltb w.line n i) (clear_here x a c))
-            ∙ s.clear n x (omega arith) a (marked_keeps b marks ys (key_of file t.row) s.room m (key_of file x) c);
+            let i : t.line < n = omega (arith, took_next file v g t u k) in
+            let j : v.walk.line ≤ n = omega (arith, took_line file v g t u k) in
+            sym (ap (used_in file n x) (took_trace file v g t u k)
+            ∙ used_on file n t.line x t.row (trace_at file u.walk) t.found q (lt-ltb t.line n i) (clear_here x a c))
+            ∙ s.clear n x j a (marked_keeps b marks ys (key_of file t.row) s.room m (key_of file x) c);
       }
 
 -- among doubtful names that hold all that are used here, a line is what it is among all
@@ -102,48 +99,48 @@ doubt_start file w marks ds l k e = record {
   none = λ i. rw e;
 }
 
-module _ (file : List ℕ) (w : Walk) (at : ℕ) (d : Bool) (marks ds : List ℕ) (s : Doubting file w d marks ds) (g : Going file w at) where
-  pub doubt_over : length file ≤ at → Doubted file ds d
+module _ (file : List ℕ) (v : Turns) (d : Bool) (marks ds : List ℕ) (s : Doubting file v.walk d marks ds) (g : Left file v) where
+  pub doubt_over : (u : Turns) → Over v u → Doubted file ds d
   unfolding repeat_among repeat_in
-  doubt_over h = record {
-    among = s.among ds (λ q c. c) (ap (repeat_among file ds) (going_end file w at g h) ∙ sym (ap (repeat_in file) (going_end file w at g h)));
-    none = λ k. sym (s.none k) ∙ ap (repeat_in file) (going_end file w at g h);
+  doubt_over u o = record {
+    among = s.among ds (λ q c. c) (ap (repeat_among file ds) (over_trace file v g u o) ∙ sym (ap (repeat_in file) (over_trace file v g u o)));
+    none = λ k. sym (s.none k) ∙ ap (repeat_in file) (over_trace file v g u o);
   }
 
-  module _ (h : at < length file) (t : Turn) (e : t ≡ turn_of file w) where
+  module _ (t : Turn) (u : Turns) (k : Took v t u) where
     pub doubt_stop : stops_by t.found ≡ true → Doubted file ds d
-    doubt_stop k = record {
+    doubt_stop q = record {
       among = s.among ds (λ q c. c)
-          (ap (repeat_among file ds) (going_trace file w at g h t e)
-          ∙ agree_stop file ds w.line t.row (trace_at file t.walk) t.found k
-          ∙ sym (ap (repeat_in file) (going_trace file w at g h t e)));
-      none = λ i. sym (s.none i) ∙ ap (repeat_in file) (going_trace file w at g h t e) ∙ none_stop file w.line t.row (trace_at file t.walk) t.found k;
+          (ap (repeat_among file ds) (took_trace file v g t u k)
+          ∙ agree_stop file ds t.line t.row (trace_at file u.walk) t.found q
+          ∙ sym (ap (repeat_in file) (took_trace file v g t u k)));
+      none = λ i. sym (s.none i) ∙ ap (repeat_in file) (took_trace file v g t u k) ∙ none_stop file t.line t.row (trace_at file u.walk) t.found q;
     }
 
-    module _ (k : stops_by t.found ≡ false) where
+    module _ (r : stops_by t.found ≡ false) where
       -- a name that is not doubtful was not used
-      unused : held_if (is_named t) marks (key_of file t.row) ≡ false → ((is_row t.found && leads_component t.row) && is_used file w.line t.row) ≡ false
+      unused : held_if (is_named t) marks (key_of file t.row) ≡ false → ((is_row t.found && leads_component t.row) && is_used file t.line t.row) ≡ false
       unfolding held_if is_named
       unused c =
-          not_used (is_row t.found && leads_component t.row) (may_hold marks (key_of file t.row)) (is_used file w.line t.row) c
-          (marking_tells file (λ (q : ℕ). true) w at marks s.marking g h t e t.row refl)
+          not_used (is_row t.found && leads_component t.row) (may_hold marks (key_of file t.row)) (is_used file t.line t.row) c
+          (marking_tells file (λ (q : ℕ). true) v marks s.marking g t u k t.row refl)
 
       module _ (es : List ℕ) (i : es ≡ marked_if (held_if (is_named t) marks (key_of file t.row)) ds (key_of file t.row)) where
         pub doubt_more : (z : Bool) (ys : List ℕ) → z ≡ held_if (is_named t) marks (key_of file t.row) → ys ≡ marked_if (is_named t) marks (key_of file t.row)
-            → Doubting file t.walk (d || z) ys es
+            → Doubting file u.walk (d || z) ys es
         doubt_more z ys j m =
             let key : ℕ = key_of file t.row in
             let doubt : Bool = held_if (is_named t) marks key in
             record {
-              marking = marking_more file (λ (q : ℕ). true) w at marks s.marking g h t e k (is_named t) (λ a b. a) ys m;
+              marking = marking_more file (λ (q : ℕ). true) v marks s.marking g t u k r (is_named t) (λ a b. a) ys m;
               room = rw (marked_if_length doubt ds es key i) s.room;
               among = λ fs c a. s.among fs (λ q b. marked_keeps doubt ds es key s.room i q (c q b))
-                  (ap (repeat_among file fs) (going_trace file w at g h t e)
-                  ∙ agree_on file fs w.line t.row (trace_at file t.walk) a t.found (λ b. unused (marked_here doubt ds es key s.room i (c key b)))
-                  ∙ sym (ap (repeat_in file) (going_trace file w at g h t e)));
+                  (ap (repeat_among file fs) (took_trace file v g t u k)
+                  ∙ agree_on file fs t.line t.row (trace_at file u.walk) a t.found (λ b. unused (marked_here doubt ds es key s.room i (c key b)))
+                  ∙ sym (ap (repeat_in file) (took_trace file v g t u k)));
               none = λ a.
-                  sym (repeat_on file w.line t.row (trace_at file t.walk) t.found k (unused (sym j ∙ or_right d z a)))
-                  ∙ sym (ap (repeat_in file) (going_trace file w at g h t e))
+                  sym (repeat_on file t.line t.row (trace_at file u.walk) t.found r (unused (sym j ∙ or_right d z a)))
+                  ∙ sym (ap (repeat_in file) (took_trace file v g t u k))
                   ∙ s.none (or_left d z a);
             }
 
@@ -169,73 +166,64 @@ module _ (file ds : List ℕ) (l : ℕ) (x : List ℤ) (t : Trace) where
   among_none (Refused m) h = refl
 
 -- a walk that decides on doubtful names: what is left of the file has the first that is used twice
-pub record Deciding (file ds marks₀ marks : List ℕ) (w : Walk) (at : ℕ) : Type 0 where
-  pub going : Going file w at
+pub record Deciding (file ds marks₀ marks : List ℕ) (v : Turns) : Type 0 where
+  pub of : Left file v
   pub few : 0 < length ds
-  pub left : repeat_among file ds (trace_at file w) ≡ repeat_among file ds (trace_of file)
-  pub marking : Marking file (may_hold ds) w marks
+  pub left : repeat_among file ds (trace_at file v.walk) ≡ repeat_among file ds (trace_of file)
+  pub marking : Marking file (may_hold ds) v.walk marks
   pub long : length marks ≡ length marks₀
 
-pub decide_start : (file ds marks : List ℕ) (w : Walk) → length file ≤ limit → 0 < length ds → 0 < length marks → w ≡ begun → Deciding file ds marks marks w 0
-decide_start file ds marks w h k l e = record {
-  going = going_start file w h e;
+pub decide_start : (file ds marks : List ℕ) (v : Turns) → v.file.now ≡ file → v.walk ≡ begun → 0 < length ds → 0 < length marks → Deciding file ds marks marks v
+decide_start file ds marks v f e k l = record {
+  of = record { of = f };
   few = k;
   left = rw e;
-  marking = marking_start file (may_hold ds) w marks l e;
+  marking = marking_start file (may_hold ds) v.walk marks l e;
   long = refl;
 }
 
-module _ (file ds marks₀ marks : List ℕ) (w : Walk) (at : ℕ) (s : Deciding file ds marks₀ marks w at) where
-  pub decide_steady : Steady file w
-  decide_steady = s.going.steady
-
-  pub decide_length : length marks ≡ length marks₀
-  decide_length = s.long
-
+module _ (file ds marks₀ marks : List ℕ) (v : Turns) (s : Deciding file ds marks₀ marks v) where
   pub decide_marked : (b : Bool) (h : ℕ) (ys : List ℕ) → ys ≡ marked_if b marks h → length ys ≡ length marks₀
   decide_marked b h ys e = marked_if_length b marks ys h e ∙ s.long
 
-  pub decide_less : (t : Turn) → at < length file → t ≡ turn_of file w → length file - t.walk.at < length file - at
-  decide_less t h e = going_less file w at s.going h t e
-
-  pub decide_over : length file ≤ at → 0 ≡ repeat_among file ds (trace_of file)
+  pub decide_over : (u : Turns) → Over v u → 0 ≡ repeat_among file ds (trace_of file)
   unfolding repeat_among
-  decide_over h = sym (ap (repeat_among file ds) (going_end file w at s.going h)) ∙ s.left
+  decide_over u o = sym (ap (repeat_among file ds) (over_trace file v s.of u o)) ∙ s.left
 
-  module _ (h : at < length file) where
-    pub decide_tells : Telling file w.line ds marks
+  module _ (t : Turn) (u : Turns) (k : Took v t u) where
+    pub decide_tells : Telling file t.line ds marks
     decide_tells = record {
       few = s.few;
       room = s.marking.room;
-      clear = marking_tells file (may_hold ds) w at marks s.marking s.going h (turn_of file w) refl;
+      clear = marking_tells file (may_hold ds) v marks s.marking s.of t u k;
     }
 
-    module _ (t : Turn) (e : t ≡ turn_of file w) (x : Bool) (i : x ≡ stops_by t.found) where
-      traced : repeat_among file ds (trace_by t.found w.line t.row (trace_at file t.walk)) ≡ repeat_among file ds (trace_of file)
-      traced = sym (ap (repeat_among file ds) (going_trace file w at s.going h t e)) ∙ s.left
+    module _ (x : Bool) (i : x ≡ stops_by t.found) where
+      traced : repeat_among file ds (trace_by t.found t.line t.row (trace_at file u.walk)) ≡ repeat_among file ds (trace_of file)
+      traced = sym (ap (repeat_among file ds) (took_trace file v s.of t u k)) ∙ s.left
 
       pub decide_stop : x ≡ true → 0 ≡ repeat_among file ds (trace_of file)
-      decide_stop j = sym (among_none file ds w.line t.row (trace_at file t.walk) t.found (sym i ∙ j)) ∙ traced
+      decide_stop j = sym (among_none file ds t.line t.row (trace_at file u.walk) t.found (sym i ∙ j)) ∙ traced
 
-      module _ (z : Bool) (c : z ≡ repeats_among file ds w.line t) where
-        pub decide_found : z ≡ true → w.line ≡ repeat_among file ds (trace_of file)
+      module _ (z : Bool) (c : z ≡ repeats_among file ds t.line t) where
+        pub decide_found : z ≡ true → t.line ≡ repeat_among file ds (trace_of file)
         unfolding repeats_among is_named
-        decide_found j = sym (among_here file ds w.line t.row (trace_at file t.walk) t.found (sym c ∙ j)) ∙ traced
+        decide_found j = sym (among_here file ds t.line t.row (trace_at file u.walk) t.found (sym c ∙ j)) ∙ traced
 
-        left_of : x ≡ false → z ≡ false → repeat_among file ds (trace_at file t.walk) ≡ repeat_among file ds (trace_of file)
+        left_of : x ≡ false → z ≡ false → repeat_among file ds (trace_at file u.walk) ≡ repeat_among file ds (trace_of file)
         unfolding repeats_among is_named
-        left_of j q = sym (among_on file ds w.line t.row (trace_at file t.walk) t.found (sym i ∙ j) (sym c ∙ q)) ∙ traced
+        left_of j q = sym (among_on file ds t.line t.row (trace_at file u.walk) t.found (sym i ∙ j) (sym c ∙ q)) ∙ traced
 
         asked : is_named t ≡ true → may_hold ds (key_of file t.row) ≡ true → held_if (is_named t) ds (key_of file t.row) ≡ true
         unfolding held_if
         asked a b = rw (a, b)
 
         pub decide_more : (ys : List ℕ) → ys ≡ marked_if (held_if (is_named t) ds (key_of file t.row)) marks (key_of file t.row) → x ≡ false → z ≡ false
-            → Deciding file ds marks₀ ys t.walk t.walk.at
+            → Deciding file ds marks₀ ys u
         decide_more ys m j q = record {
-          going = going_more file w at s.going h t e;
+          of = took_left file v s.of t u k;
           few = s.few;
           left = left_of j q;
-          marking = marking_more file (may_hold ds) w at marks s.marking s.going h t e (sym i ∙ j) (held_if (is_named t) ds (key_of file t.row)) asked ys m;
+          marking = marking_more file (may_hold ds) v marks s.marking s.of t u k (sym i ∙ j) (held_if (is_named t) ds (key_of file t.row)) asked ys m;
           long = decide_marked (held_if (is_named t) ds (key_of file t.row)) (key_of file t.row) ys m;
         }

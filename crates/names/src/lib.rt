@@ -33,7 +33,8 @@ ghost use Rattle.names.specs.Marks.{held_if, marked_if, repeats_among, repeat_am
 
 use rows::WIDTH;
 use rows_texts::hash_name;
-use walk::{Turn, steps};
+use walk::Turn;
+use walk::steps::{self, Turns};
 
 // How many words a walk has at hand for the marks of names, 496 KiB of them, and how many for those of doubtful names; and how
 // many are enough for fewer than so many bytes, or so many numbers of rows.
@@ -46,26 +47,19 @@ pub const FEW: usize = 4_096;
 pub const SMALL: usize = 32_768;
 
 // Whether a line names a component.
+#[tactic(auto, unfolding(crate::specs::Names::is_named))]
 pub fn names_component(t: Turn) -> bool
     ensures { result ≡ is_named t }
 {
-    let found = t.found;
-    let row = t.row;
-    if steps::is_row(found) {
-        return rows::leads_component(row);
-    }
-    false
+    steps::is_row(t.found) && rows::leads_component(t.row)
 }
 
 // Whether a line names the component that a row names.
+#[tactic(auto, unfolding(crate::specs::Names::names_same))]
 fn names_same(file: &[u8], t: Turn, x: [i64; WIDTH]) -> bool
     ensures { result ≡ names_same file.now t x }
 {
-    let row = t.row;
-    if names_component(t) {
-        return rows_texts::same_names(file, row, file, x);
-    }
-    false
+    names_component(t) && rows_texts::same_names(file, t.row, file, x)
 }
 
 // Whether a line before line n names the component that a row names.
@@ -73,23 +67,16 @@ fn is_used(file: &[u8], n: u64, x: [i64; WIDTH]) -> bool
     requires { length file.now ≤ limit }
     ensures { result ≡ is_used file.now n x }
 {
-    let mut w = steps::begin();
-    let mut at = 0;
-    while at < file.len() {
-        let l = w.line;
-        if n <= l {
+    for t in Turns::of(file) {
+        if n <= t.line {
             return false;
         }
-        let t = steps::turn(file, w);
-        let found = t.found;
-        if steps::stops(found) {
+        if steps::stops(t.found) {
             return false;
         }
         if names_same(file, t, x) {
             return true;
         }
-        w = t.walk;
-        at = w.at;
     }
     false
 }
@@ -147,9 +134,8 @@ fn repeats(file: &[u8], n: u64, t: Turn, doubts: &[u16], marks: &mut [u16]) -> b
     ensures value { result ≡ repeats_among file.now doubts.now n t }
     ensures marks_after { marks.new ≡ marked_if (held_if (is_named t) doubts.now (key_of file.now t.row)) marks.old (key_of file.now t.row) }
 {
-    let row = t.row;
-    if is_again(file, names_component(t), row, doubts, marks) {
-        return is_used(file, n, row);
+    if is_again(file, names_component(t), t.row, doubts, marks) {
+        return is_used(file, n, t.row);
     }
     false
 }
@@ -159,20 +145,13 @@ fn repeat_by(file: &[u8], doubts: &[u16], marks: &mut [u16]) -> u64
     requires { (length file.now ≤ limit) × (0 < length doubts.now) × (0 < length marks.old) }
     ensures { result ≡ repeat_among file.now doubts.now (trace_of file.now) }
 {
-    let mut w = steps::begin();
-    let mut at = 0;
-    while at < file.len() {
-        let l = w.line;
-        let t = steps::turn(file, w);
-        let found = t.found;
-        if steps::stops(found) {
+    for t in Turns::of(file) {
+        if steps::stops(t.found) {
             return 0;
         }
-        if repeats(file, l, t, doubts, marks) {
-            return l;
+        if repeats(file, t.line, t, doubts, marks) {
+            return t.line;
         }
-        w = t.walk;
-        at = w.at;
     }
     0
 }

@@ -31,23 +31,13 @@ const MODULUS: u64 = 1_099_511_627_689;
 
 const FACTOR: u64 = 11_400_715;
 
-// A byte as a wider number.
-fn wide(b: u8) -> u64
-    ensures value { result ≡ b }
-    ensures upper_bound { result < 256 }
-{
-    b as u64
-}
-
 // The hash of bytes behind those that gave h.
 pub fn hash(h: u64, s: &[u8]) -> u64
     ensures { result ≡ hashed h s.now }
 {
     let mut n = h;
-    let mut i = 0;
-    while i < s.len() {
-        n = (n % MODULUS) * FACTOR + wide(s[i]);
-        i += 1;
+    for b in s {
+        n = (n % MODULUS) * FACTOR + u64::from(*b);
     }
     (n % MODULUS) * FACTOR
 }
@@ -65,8 +55,7 @@ fn put_number(slots: &mut [u64], from: usize, m: u64)
     requires { from + looks ≤ length slots.old }
     ensures { slots.new ≡ put_from looks slots.old from m }
 {
-    let mut i = 0;
-    while i < LOOKS {
+    for i in 0..LOOKS {
         let x = slots[from + i];
         if x == 0 {
             slots[from + i] = m;
@@ -75,7 +64,6 @@ fn put_number(slots: &mut [u64], from: usize, m: u64)
         if x == m {
             return;
         }
-        i += 1;
     }
 }
 

@@ -65,17 +65,16 @@ fn put_bit(marks: &mut [u16], p: u64)
     marks[at] = x | b;
 }
 
-// Whether a hash may have been marked: all its bits are set.
+// Whether a hash may have been marked: all its bits are set. It stops at one that is not, and `put_bits` writes them all: one
+// walk for both would be longer than the two.
 pub fn may_hold(marks: &[u16], h: u64) -> bool
     requires { 0 < length marks.now }
     ensures { result ≡ may_hold marks.now h }
 {
-    let mut i = 0;
-    while i < BITS {
+    for i in 0..BITS {
         if !has_bit(marks, spot_of(h, i)) {
             return false;
         }
-        i += 1;
     }
     true
 }
@@ -85,10 +84,8 @@ fn put_bits(marks: &mut [u16], h: u64)
     requires { 0 < length marks.old }
     ensures { marks.new ≡ marked marks.old h }
 {
-    let mut i = 0;
-    while i < BITS {
+    for i in 0..BITS {
         put_bit(marks, spot_of(h, i));
-        i += 1;
     }
 }
 

@@ -1,21 +1,18 @@
 -- The values of each kind, within the limit that belongs to it.
-use Rattle.std.specs.Prelude.{cond, leb, ℤ, nat_abs}
+use Rattle.std.specs.Prelude.{cond, leb, ℤ, nat_abs, Option, Some, None}
 use Rattle.law.specs.Limits.{largest_length, largest_angle, largest_integer, in_turn}
-use Rattle.number.specs.declared.LengthAnswer.{LengthAnswer}
-use Rattle.number.specs.declared.LengthAnswer.TheVariants as len
-use Rattle.number.specs.declared.AngleAnswer.{AngleAnswer}
-use Rattle.number.specs.declared.AngleAnswer.TheVariants as ang
-use Rattle.number.specs.declared.IntegerAnswer.{IntegerAnswer}
-use Rattle.number.specs.declared.IntegerAnswer.TheVariants as int
+use Rattle.number.specs.declared.Length.{Length}
+use Rattle.number.specs.declared.Angle.{Angle}
+use Rattle.number.specs.declared.Integer.{Integer}
 
-abbrev pub length_of : ℤ → LengthAnswer
-length_of z = cond (leb (nat_abs z) largest_length) (len.Made (record { 0 = z })) len.Beyond
+abbrev pub length_of : ℤ → Option Length
+length_of z = cond (leb (nat_abs z) largest_length) (Some (record { 0 = z })) None
 
-abbrev pub angle_of : ℤ → AngleAnswer
-angle_of z = cond (leb (nat_abs z) largest_angle) (ang.Made (record { 0 = z })) ang.Beyond
+abbrev pub angle_of : ℤ → Option Angle
+angle_of z = cond (leb (nat_abs z) largest_angle) (Some (record { 0 = z })) None
 
-abbrev pub included_of : ℤ → AngleAnswer
-included_of z = cond (in_turn z) (ang.Made (record { 0 = z })) ang.Beyond
+abbrev pub included_of : ℤ → Option Angle
+included_of z = cond (in_turn z) (Some (record { 0 = z })) None
 
-abbrev pub integer_of : ℤ → IntegerAnswer
-integer_of z = cond (leb (nat_abs z) largest_integer) (int.Made (record { 0 = z })) int.Beyond
+abbrev pub integer_of : ℤ → Option Integer
+integer_of z = cond (leb (nat_abs z) largest_integer) (Some (record { 0 = z })) None

@@ -9,43 +9,30 @@ ghost use Rattle.number.specs.Limits.{length_of, angle_of, included_of, integer_
 pub fn magnitude(z: i64) -> u64
     ensures { result ≡ nat_abs z }
 {
-    if z < 0 {
-        let next = z + 1;
-        return (-next) as u64 + 1;
-    }
-    z as u64
+    z.unsigned_abs()
 }
 
 // Whether a signed number is below zero.
 pub fn is_below(z: i64) -> bool
     ensures { result ≡ below z }
 {
-    0 > z
+    z < 0
 }
 
 // A length, as a count of hundred-thousandths of the file's unit.
-#[derive(Clone, Copy)]
+#[derive(Clone, Copy, PartialEq, Eq)]
 pub struct Length(i64);
-
-// A length, or none where the count is beyond the largest.
-#[derive(Clone, Copy)]
-pub enum LengthAnswer {
-    Made(Length),
-    Beyond,
-}
 
 impl Length {
     pub const LARGEST: u64 = 99_999_999_999;
 
     pub const ZERO: Length = Length(0);
 
-    pub fn new(count: i64) -> LengthAnswer
+    // A length, or none where the count is beyond the largest.
+    pub fn new(count: i64) -> Option<Length>
         ensures { result ≡ length_of count }
     {
-        if Length::LARGEST < magnitude(count) {
-            return LengthAnswer::Beyond;
-        }
-        LengthAnswer::Made(Length(count))
+        (magnitude(count) <= Length::LARGEST).then_some(Length(count))
     }
 
     pub fn count(self) -> i64
@@ -56,16 +43,10 @@ impl Length {
     }
 }
 
-// An angle in degrees, as a count of hundred-thousandths.
+// An angle in degrees, as a count of hundred-thousandths. A type of its own, as each kind is, so that no kind passes for another;
+// one type over a limit would make a length an angle, since both have the same limit.
 #[derive(Clone, Copy)]
 pub struct Angle(i64);
-
-// An angle, or none where the count is beyond the limit.
-#[derive(Clone, Copy)]
-pub enum AngleAnswer {
-    Made(Angle),
-    Beyond,
-}
 
 impl Angle {
     pub const LARGEST: u64 = Length::LARGEST;
@@ -74,28 +55,19 @@ impl Angle {
 
     pub const ZERO: Angle = Angle(0);
 
-    // Any angle, as a rotation is.
-    pub fn new(count: i64) -> AngleAnswer
+    // Any angle, as a rotation is, or none where the count is beyond the largest.
+    pub fn new(count: i64) -> Option<Angle>
         ensures { result ≡ angle_of count }
     {
-        if Angle::LARGEST < magnitude(count) {
-            return AngleAnswer::Beyond;
-        }
-        AngleAnswer::Made(Angle(count))
+        (magnitude(count) <= Angle::LARGEST).then_some(Angle(count))
     }
 
-    // An included angle: above -360 degrees and not above 360.
-    pub fn included(count: i64) -> AngleAnswer
+    // An included angle, above -360 degrees and not above 360, or none.
+    pub fn included(count: i64) -> Option<Angle>
         ensures { result ≡ included_of count }
     {
-        let n = magnitude(count);
-        if Angle::FULL_TURN < n {
-            return AngleAnswer::Beyond;
-        }
-        if is_below(count) & (n == Angle::FULL_TURN) {
-            return AngleAnswer::Beyond;
-        }
-        AngleAnswer::Made(Angle(count))
+        let turn = Angle::FULL_TURN as i64;
+        (-turn < count && count <= turn).then_some(Angle(count))
     }
 
     pub fn count(self) -> i64
@@ -110,23 +82,14 @@ impl Angle {
 #[derive(Clone, Copy)]
 pub struct Integer(i64);
 
-// An integer, or none where the value is beyond the largest.
-#[derive(Clone, Copy)]
-pub enum IntegerAnswer {
-    Made(Integer),
-    Beyond,
-}
-
 impl Integer {
     pub const LARGEST: u64 = 999_999_999;
 
-    pub fn new(value: i64) -> IntegerAnswer
+    // An integer, or none where the value is beyond the largest.
+    pub fn new(value: i64) -> Option<Integer>
         ensures { result ≡ integer_of value }
     {
-        if Integer::LARGEST < magnitude(value) {
-            return IntegerAnswer::Beyond;
-        }
-        IntegerAnswer::Made(Integer(value))
+        (magnitude(value) <= Integer::LARGEST).then_some(Integer(value))
     }
 
     pub fn value(self) -> i64
@@ -137,17 +100,9 @@ impl Integer {
     }
 }
 
-// What a field reads as where a number must stand: a count; no number, or one past its magnitude; one with too fine a decimal.
-#[derive(Clone, Copy)]
-pub enum NumberAnswer {
-    Count(i64),
+// Why a field reads as no count where a number must stand: it is no number, or one past its magnitude; a decimal is too fine.
+#[derive(Clone, Copy, PartialEq, Eq)]
+pub enum NumberError {
     NotNumber,
     TooFine,
-}
-
-// What a field reads as where an integer must stand.
-#[derive(Clone, Copy)]
-pub enum WholeAnswer {
-    Whole(Integer),
-    NotInteger,
 }

@@ -1,22 +1,27 @@
 -- Laws of what is written, and of a numeral's digits.
-use Prim.Native.Nat.{ℕ, zero, suc, ◌+◌, ◌-◌, ◌/◌, ◌%◌, ◌≤◌, ◌<◌}
+use Prim.Native.Nat.{ℕ, zero, suc, ◌^◌, ◌*◌, ◌+◌, ◌-◌, ◌/◌, ◌%◌, ◌≤◌, ◌<◌}
+use mathlib.Core.Logic.{◌⊎◌, inl, inr}
+use Rattle.std.specs.Prelude.{Option}
+use Rattle.std.specs.Option.{IfNone, IfSome, unwrap_or}
+use Rattle.std.specs.declared.option.Option.TheVariants.{None, Some}
 use mathlib.Core.Path.{◌≡◌, refl, sym, ap, ◌∙◌}
 use mathlib.Core.List.{List, [], ◌∷◌, ◌++◌}
 use mathlib.Core.Bool.{Bool, true, false, cond}
 use native.Mathlib.Omega.{arith}
 use borrow.Author.Tests.{lt-ltb, le-ltb}
 use lib.Dec.{ltb}
-use lib.IntN.{ℤ, nat_abs}
+use lib.IntN.{ℤ, pos, negsuc, nat_abs}
+use lib.Signed.{lt_z}
 use lib.ListN.{length, set, length-append}
 use lib.Seq.{sets, length-sets}
 use Rattle.basics.proofs.Integers.{back}
 use Rattle.law.specs.Limits.{below, largest_length}
 use mir.Syntax.{w64}
-use mir.Val.{Fits, SFits}
+use mir.Val.{Fits, SFits, bool_byte}
 use mir.ValLaws.{to_z-of_z}
 use Rattle.number.proofs.SignLaws.{same_abs}
 use Rattle.number_print.specs.Printing.{Wrote, top}
-use Rattle.law.specs.Printing.{numeral_of, decimals_of, magnitude_of, Form, digits_of, sign_of, printed}
+use Rattle.law.specs.Printing.{numeral_of, decimals_of, magnitude_of, Form, decimal, whole, digits_of, sign_of, printed}
 
 -- bytes behind bytes
 pub sets_append : (o : List ℕ) (i : ℕ) (l m : List ℕ) → sets (sets o i l) (i + length l) m ≡ sets o i (l ++ m)
@@ -68,19 +73,6 @@ module _ (k n : ℕ) where
   pub mod_ten : n % 10 < 10
   mod_ten = omega arith
 
-  module _ (o p : List ℕ) (at r b : ℕ) (e : b ≡ 48 + n) (w : Wrote o p at r (b ∷ [])) where
-    pub numeral_zero : k ≡ 0 → Wrote o p at r (numeral_of k n)
-    unfolding numeral_of
-    numeral_zero h = rw h (rw e at w)
-
-    pub numeral_small : (k ≡ 0 → ⊥) → n < 10 → Wrote o p at r (numeral_of k n)
-    unfolding numeral_of
-    numeral_small z h = go k z
-      where
-        go : (k : ℕ) → (k ≡ 0 → ⊥) → Wrote o p at r (numeral_of k n)
-        go zero z = absurd (z refl)
-        go (suc k) z = rw (lt-ltb n 10 h) (rw e at w)
-
   pub numeral_more : (o p q : List ℕ) (at m r b : ℕ) → (k ≡ 0 → ⊥) → 10 ≤ n → b ≡ 48 + n % 10 → Wrote o p at m (numeral_of (k - 1) (n / 10)) → Wrote p q m r (b ∷ []) → Wrote o q at r (numeral_of k n)
   unfolding numeral_of
   numeral_more o p q at m r b z h e v w = go k z v
@@ -91,18 +83,28 @@ module _ (k n : ℕ) where
 
   -- there is room for the first digits, and for the last
   module _ (o : List ℕ) (at : ℕ) (h : at + length (numeral_of k n) ≤ length o) where
-    pub room_zero : k ≡ 0 → at < length o
-    unfolding numeral_of
-    room_zero e = let x : at + length (numeral_of 0 n) ≤ length o = rw e at h in omega arith
-
-    pub room_small : (k ≡ 0 → ⊥) → n < 10 → at < length o
-    room_small z l = omega (arith, small_length k n z l)
-
     pub room_less : (k ≡ 0 → ⊥) → 10 ≤ n → at + length (numeral_of (k - 1) (n / 10)) ≤ length o
     room_less z l = omega (arith, more_length k n z l)
 
     pub numeral_room : (p : List ℕ) (m : ℕ) → (k ≡ 0 → ⊥) → 10 ≤ n → Wrote o p at m (numeral_of (k - 1) (n / 10)) → m < length p
     numeral_room p m z l v = omega (arith, more_length k n z l, wrote_length v)
+
+-- a numeral of one digit
+one_digit : (k n : ℕ) → n < 10 → numeral_of k n ≡ (48 + n) ∷ []
+unfolding numeral_of
+one_digit zero n h = refl
+one_digit (suc k) n h = rw (lt-ltb n 10 h)
+
+digit_left : (k n : ℕ) → n < top k → (k ≡ 0) ⊎ ((k ≡ 0 → ⊥) × (n < 10)) → n < 10
+digit_left k n h (inl e) = top_zero k n h e
+digit_left k n h (inr e) = e.1
+
+module _ (k n : ℕ) (h : n < top k) (e : (k ≡ 0) ⊎ ((k ≡ 0 → ⊥) × (n < 10))) where
+  pub digit_room : (o : List ℕ) (at : ℕ) → at + length (numeral_of k n) ≤ length o → at < length o
+  digit_room o at r = omega (arith, ap length (one_digit k n (digit_left k n h e)))
+
+  pub digit_wrote : (o p : List ℕ) (at r b : ℕ) → b ≡ 48 + n → Wrote o p at r (b ∷ []) → Wrote o p at r (numeral_of k n)
+  digit_wrote o p at r b q w = rw (one_digit k n (digit_left k n h e)) (rw q at w)
 
 -- Decimals: five digits, one after the other
 pub decimals_wrote : (f : ℕ) (o p q s t u : List ℕ) (at a b c d e v w x y z : ℕ)
@@ -140,52 +142,69 @@ module _ (c : ℕ) (o p : List ℕ) (at a : ℕ) (v : Wrote o p at a (numeral_of
     unfolding magnitude_of
     magnitude_wrote s r x = wrote_more v (wrote_more w x)
 
--- A sign before the digits: n and t are the magnitude and the sign of z as it was read back
-module _ (k : Form) (z : ℤ) (f : SFits w64 z) (n : ℕ) (m : n ≡ nat_abs (back z)) (t : Bool) (e : t ≡ below (back z)) where
-  mag : n ≡ nat_abs z
-  mag = rw (to_z-of_z w64 z f) at m
+-- a numeral of at most eleven digits is short, with a point and decimals too
+pub digits_short : (k : Form) (n : ℕ) → length (digits_of k n) ≤ 17
+digits_short decimal n = omega (arith, magnitude_length n, numeral_length 10 (n / 100_000))
+digits_short whole n = omega (arith, numeral_length 10 n)
 
-  sign : t ≡ below z
-  sign = rw (to_z-of_z w64 z f) at e
+pub sign_short : (z : ℤ) → length (sign_of (below z) []) ≤ 1
+unfolding sign_of
+sign_short (pos n) = omega arith
+sign_short (negsuc n) = omega arith
 
-  minus_is : t ≡ true → printed k z ≡ 45 ∷ digits_of k n
+-- A sign before the digits: n is the magnitude of z as it was read back
+pub below_zero : (z : ℤ) → SFits w64 z → lt_z (back z) (pos 0) ≡ below z
+below_zero z f = rw (to_z-of_z w64 z f) (go z)
+  where
+    go : (z : ℤ) → lt_z z (pos 0) ≡ below z
+    go (pos n) = le-ltb n 0 (omega arith)
+    go (negsuc n) = refl
+
+pub sign_none : (o : List ℕ) (at : ℕ) (z : ℤ) → below z ≡ false → Wrote o o at at (sign_of (below z) [])
+unfolding sign_of
+sign_none o at z h = rw h (record { is = refl; next = omega arith })
+
+pub sign_minus : (o p : List ℕ) (at r : ℕ) (z : ℤ) → below z ≡ true → Wrote o p at r (45 ∷ []) → Wrote o p at r (sign_of (below z) [])
+unfolding sign_of
+sign_minus o p at r z h w = rw h w
+
+pub minus_room : (z : ℤ) → SFits w64 z → (o : List ℕ) (at : ℕ) → lt_z (back z) (pos 0) ≡ true → at + length (sign_of (below z) []) ≤ length o → at < length o
+unfolding sign_of
+minus_room z f o at h r = let x : at + length (sign_of true []) ≤ length o = rw (sym (below_zero z f) ∙ h) at r in omega (arith, x)
+
+pub sign_length : (z : ℤ) → length (sign_of (below z) []) ≡ cond (below z) 1 0
+unfolding sign_of
+sign_length (pos n) = refl
+sign_length (negsuc n) = refl
+
+module _ (k : Form) (z : ℤ) (f : SFits w64 z) (n : ℕ) (m : n ≡ nat_abs (back z)) where
+  signed : printed k z ≡ sign_of (below z) [] ++ digits_of k n
   unfolding printed sign_of
-  minus_is h = rw (← mag, sym sign ∙ h)
+  signed = rw (same_abs z f n m) (go (below z))
+    where
+      go : (t : Bool) → sign_of t (digits_of k (nat_abs z)) ≡ sign_of t [] ++ digits_of k (nat_abs z)
+      go true = refl
+      go false = refl
 
-  plain_is : t ≡ false → printed k z ≡ digits_of k n
-  unfolding printed sign_of
-  plain_is h = rw (← mag, sym sign ∙ h)
+  signed_length : length (printed k z) ≡ length (sign_of (below z) []) + length (digits_of k n)
+  signed_length = ap length signed ∙ length-append (sign_of (below z) []) (digits_of k n)
 
-  minus_length : t ≡ true → length (printed k z) ≡ length (digits_of k n) + 1
-  minus_length h = rw (minus_is h) (omega arith)
+  -- which is short, so sums with it fit
+  pub sum_fits : (a d : ℕ) → a ≡ length (sign_of (below z) []) → d ≡ length (digits_of k n) → Fits w64 (a + d)
+  sum_fits a d e h = omega (arith, sign_short z, digits_short k n)
 
-  plain_length : t ≡ false → length (printed k z) ≡ length (digits_of k n)
-  plain_length h = rw (plain_is h)
+  pub sum_length : (a d : ℕ) → a ≡ length (sign_of (below z) []) → d ≡ length (digits_of k n) → a + d ≡ length (printed k z)
+  sum_length a d e h = omega (arith, signed_length)
 
-  module _ (o : List ℕ) (at : ℕ) (r : at + length (printed k z) ≤ length o) where
-    pub first_room : t ≡ true → at < length o
-    first_room h = omega (arith, minus_length h)
+  module _ (o p : List ℕ) (at a : ℕ) (w : Wrote o p at a (sign_of (below z) [])) where
+    pub digits_room : at + length (printed k z) ≤ length o → a + length (digits_of k n) ≤ length p
+    digits_room h = omega (arith, wrote_length w, w.next, signed_length)
 
-    pub plain_room : t ≡ false → at + length (digits_of k n) ≤ length o
-    plain_room h = omega (arith, plain_length h)
+  pub signed_wrote : (o p q : List ℕ) (at a r : ℕ) → Wrote o p at a (sign_of (below (back z)) []) → Wrote p q a r (digits_of k n) → Wrote o q at r (printed k z)
+  signed_wrote o p q at a r w v = rw signed (wrote_more (rw (to_z-of_z w64 z f) at w) v)
 
-    pub minus_room : (p : List ℕ) (a : ℕ) → t ≡ true → Wrote o p at a (45 ∷ []) → a + length (digits_of k n) ≤ length p
-    minus_room p a h w = omega (arith, wrote_length w, minus_length h)
-
-  module _ (o p : List ℕ) (at a : ℕ) where
-    pub minus_wrote : (q : List ℕ) (r : ℕ) → t ≡ true → Wrote o p at a (45 ∷ []) → Wrote p q a r (digits_of k n) → Wrote o q at r (printed k z)
-    minus_wrote q r h v w = rw (minus_is h) (wrote_more v w)
-
-    pub plain_wrote : t ≡ false → Wrote o p at a (digits_of k n) → Wrote o p at a (printed k z)
-    plain_wrote h w = rw (plain_is h) w
-
-  -- how many bytes that is, from the length d of the digits
-  module _ (d : ℕ) (l : d ≡ length (digits_of k n)) where
-    pub minus_len : t ≡ true → d + 1 ≡ length (printed k z)
-    minus_len h = omega (arith, minus_length h)
-
-    pub plain_len : t ≡ false → d ≡ length (printed k z)
-    plain_len h = omega (arith, plain_length h)
+pub sign_room : (k : Form) (z : ℤ) (o : List ℕ) (at : ℕ) → SFits w64 z → at + length (printed k z) ≤ length o → at + length (sign_of (below z) []) ≤ length o
+sign_room k z o at f h = let e : nat_abs z ≡ nat_abs (back z) = rw (to_z-of_z w64 z f) in omega (arith, signed_length k z f (nat_abs z) e)
 
 -- the magnitude keeps its bound
 pub mag_small : (z : ℤ) → SFits w64 z → (n : ℕ) → n ≡ nat_abs (back z) → nat_abs z ≤ largest_length → n ≤ largest_length
@@ -194,34 +213,28 @@ mag_small z f n m h = omega (arith, same_abs z f n m)
 pub mag_top : (z : ℤ) → SFits w64 z → (n : ℕ) → n ≡ nat_abs (back z) → nat_abs z ≤ largest_length → n < top 10
 mag_top z f n m h = omega (arith, same_abs z f n m)
 
--- How many digits a numeral has: the loop takes one digit off at each turn
-pub record Counting (n m len : ℕ) : Type 0 where
-  pub k : ℕ
-  pub few : len + k ≡ 11
-  pub small : m < top k
-  pub is : length (numeral_of 10 n) ≡ len + length (numeral_of k m) - 1
+-- How many digits a numeral has: one more than its logarithm
+pub digit_count : (j n k : ℕ) → n < top j → 10 ^ k ≤ n → n < 10 * 10 ^ k → length (numeral_of j n) ≡ k + 1
+unfolding numeral_of
+digit_count zero n zero h a b = refl
+digit_count zero n (suc k) h a b = absurd (omega arith)
+digit_count (suc j) n zero h a b = rw (lt-ltb n 10 b)
+digit_count (suc j) n (suc k) h a b =
+    let x : 10 ≤ n = omega arith in
+    let y : length (numeral_of j (n / 10)) ≡ k + 1 = digit_count j (n / 10) k (omega arith) (omega arith) (omega arith) in
+    rw (le-ltb n 10 x) (length-append (numeral_of j (n / 10)) ((48 + n % 10) ∷ []) ∙ omega (arith, y))
 
-pub count_start : (n : ℕ) → n ≤ largest_length → Counting n n 1
-count_start n h = record { k = 10; few = omega arith; small = omega arith; is = omega arith }
+pub log_count : (n : ℕ) (l : Option ℕ) → n ≤ largest_length → IfNone l (n ≡ 0) → IfSome l (λ k. 10 ^ k ≤ n) → IfSome l (λ k. n < 10 * 10 ^ k) → unwrap_or l 0 + 1 ≡ length (numeral_of 10 n)
+unfolding numeral_of
+log_count n None h e a b = rw e
+log_count n (Some k) h e a b = sym (digit_count 10 n k (omega arith) a b)
 
-module _ {n m len : ℕ} (i : Counting n m len) where
-  pub count_more : 10 ≤ m → Counting n (m / 10) (len + 1)
-  count_more h = go i.k i.few i.small i.is
-    where
-      go : (k : ℕ) → len + k ≡ 11 → m < top k → length (numeral_of 10 n) ≡ len + length (numeral_of k m) - 1 → Counting n (m / 10) (len + 1)
-      go zero f s e = absurd (omega arith)
-      go (suc k) f s e =
-          let x : suc k - 1 ≡ k = omega arith in
-          let y : length (numeral_of (suc k) m) ≡ length (numeral_of k (m / 10)) + 1 = rw x at (more_length (suc k) m (λ z. omega arith) h) in
-          record { k = k; few = omega arith; small = omega arith; is = omega arith }
-
-  pub count_over : m < 10 → len ≡ length (numeral_of 10 n)
-  unfolding numeral_of
-  count_over h = go i.k i.is
-    where
-      go : (k : ℕ) → length (numeral_of 10 n) ≡ len + length (numeral_of k m) - 1 → len ≡ length (numeral_of 10 n)
-      go zero e = omega arith
-      go (suc k) e = omega (arith, small_length (suc k) m (λ z. omega arith) h)
+pub as_byte : (z : ℤ) → SFits w64 z → (a : ℕ) → a ≡ bool_byte (lt_z (back z) (pos 0)) → a ≡ length (sign_of (below z) [])
+as_byte z f a e = e ∙ ap bool_byte (below_zero z f) ∙ go (below z) ∙ sym (sign_length z)
+  where
+    go : (t : Bool) → bool_byte t ≡ cond t 1 0
+    go true = refl
+    go false = refl
 
 -- a numeral of at most eleven digits is short
 pub numeral_short : (n : ℕ) → length (numeral_of 10 n) ≤ 11
@@ -233,11 +246,5 @@ point_length n d e = omega (arith, magnitude_length n)
 
 -- so sums with these lengths fit
 module _ (n d : ℕ) where
-  pub whole_fits : d ≡ length (numeral_of 10 n) → Fits w64 (d + 1)
-  whole_fits e = omega (arith, numeral_short n)
-
   pub point_fits : d ≡ length (numeral_of 10 n) → Fits w64 (d + 6)
   point_fits e = omega (arith, numeral_short n)
-
-  pub decimal_fits : d ≡ length (magnitude_of n) → Fits w64 (d + 1)
-  decimal_fits e = omega (arith, numeral_short (n / 100_000), magnitude_length n)

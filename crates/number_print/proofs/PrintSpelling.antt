@@ -1,4 +1,5 @@
 -- What is printed spells its value, so reading it gives the value back.
+use Rattle.std.proofs.Common.{Some, Ok}
 use Prim.Native.Nat.{ℕ, zero, suc, ◌+◌, ◌/◌, ◌%◌, ◌≤◌, ◌<◌}
 use mathlib.Core.Path.{◌≡◌, refl, subst}
 use mathlib.Core.List.{List, [], ◌∷◌, ◌++◌}
@@ -15,8 +16,6 @@ use Rattle.number_print.specs.Printing.{top}
 use Rattle.law.specs.Printing.{numeral_of, decimals_of, magnitude_of, sign_of, printed, printed_count, printed_integer}
 use Rattle.law.specs.Integers as int
 use Rattle.law.specs.Integers.{SpellsInteger}
-use Rattle.number.specs.declared.NumberAnswer.TheVariants.{Count}
-use Rattle.number.specs.declared.WholeAnswer.TheVariants.{Whole}
 use Rattle.number_read.proofs.NumberSpelling.{number_complete}
 use Rattle.number_read.proofs.IntegerSpelling.{integer_complete}
 
@@ -62,8 +61,8 @@ unfolding printed sign_of
 integer_spells (pos n) h = int.plain (numeral_spells 10 n (omega arith)) h
 integer_spells (negsuc n) h = int.minus (numeral_spells 10 (suc n) (omega arith)) h
 
-pub count_back : (z : ℤ) → nat_abs z ≤ largest_length → read_number most_decimals largest_length (printed_count z) ≡ Count z
+pub count_back : (z : ℤ) → nat_abs z ≤ largest_length → read_number most_decimals largest_length (printed_count z) ≡ Ok z
 count_back z h = number_complete (count_spells z h)
 
-pub integer_back : (z : ℤ) → nat_abs z ≤ largest_integer → read_integer (printed_integer z) ≡ Whole (record { 0 = z })
+pub integer_back : (z : ℤ) → nat_abs z ≤ largest_integer → read_integer (printed_integer z) ≡ Some (record { 0 = z })
 integer_back z h = integer_complete (integer_spells z h)

@@ -1,25 +1,26 @@
 -- Laws of an integer's definitions at an index of the list, as the loop cites them.
+use Rattle.std.proofs.Common.{Some, None}
 use Prim.Native.Nat.{ℕ, ◌+◌, ◌*◌, ◌-◌, ◌≤◌, ◌<◌}
 use mathlib.Core.Path.{◌≡◌, refl}
 use mathlib.Core.List.{List, [], ◌∷◌}
-use mathlib.Core.Option.{none, some}
-use mathlib.Core.Bool.{Bool, true, false, cond}
+use mathlib.Core.Bool.{Bool, true, false, cond, ◌||◌}
 use native.Mathlib.Omega.{arith}
-use borrow.Author.Tests.{eq-eqb, ne_eqb, lt-leb}
+use borrow.Author.Tests.{lt-leb}
+use lib.Dec.{eqb}
 use lib.ListN.{length, drop, get_or}
 use Rattle.basics.proofs.Lists.{at_cons, at_end}
 use Rattle.law.specs.Limits.{largest_integer}
 use Rattle.law.specs.Numbers.{is_digit}
 use Rattle.number.specs.Numbers.{digit_here}
+use Rattle.number_read.specs.Signs.{is_minus, without_sign}
 use Rattle.number.specs.Integers.{digits, whole_by, unsigned, read_integer}
-use Rattle.number.specs.declared.WholeAnswer.TheVariants.{NotInteger}
 
 module _ (s : List ℕ) (i : ℕ) where
-  pub digits_end : (n : ℕ) → length s ≤ i → digits n (drop i s) ≡ some n
+  pub digits_end : (n : ℕ) → length s ≤ i → digits n (drop i s) ≡ Some n
   unfolding digits
   digits_end n h = rw (at_end s i h)
 
-  pub digits_bad : (n : ℕ) → i < length s → is_digit (get_or s i 0) ≡ false → digits n (drop i s) ≡ none
+  pub digits_bad : (n : ℕ) → i < length s → is_digit (get_or s i 0) ≡ false → digits n (drop i s) ≡ None
   unfolding digits
   digits_bad n h d = rw (at_cons s i h, d)
 
@@ -28,40 +29,39 @@ module _ (s : List ℕ) (i : ℕ) where
   digits_more n h d = rw (at_cons s i h, d)
 
 -- a number beyond the limit stays there
-pub digits_big : (l : List ℕ) (neg : Bool) (n : ℕ) → largest_integer < n → whole_by neg (digits n l) ≡ NotInteger
+pub digits_big : (l : List ℕ) (neg : Bool) (n : ℕ) → largest_integer < n → whole_by neg (digits n l) ≡ None
 unfolding digits
 digits_big [] neg n h = rw (lt-leb n largest_integer h)
 digits_big (b ∷ l) neg n h = go (is_digit b) (digits_big l neg (n * 10 + (b - 48)) (omega arith))
   where
-    go : (t : Bool) → whole_by neg (digits (n * 10 + (b - 48)) l) ≡ NotInteger → whole_by neg (cond t (digits (n * 10 + (b - 48)) l) none) ≡ NotInteger
+    go : (t : Bool) → whole_by neg (digits (n * 10 + (b - 48)) l) ≡ None → whole_by neg (cond t (digits (n * 10 + (b - 48)) l) None) ≡ None
     go true e = e
     go false e = refl
 
-pub unsigned_none : (neg : Bool) (l : List ℕ) → digit_here l ≡ false → unsigned neg l ≡ NotInteger
-unfolding unsigned
-unsigned_none neg l h = rw h
+pub unsigned_none : (neg : Bool) (l : List ℕ) → length l ≡ 0 → unsigned neg l ≡ None
+unfolding unsigned digit_here
+unsigned_none neg [] h = refl
+unsigned_none neg (b ∷ l) h = absurd (omega arith)
 
-pub unsigned_some : (neg : Bool) (l : List ℕ) → digit_here l ≡ true → unsigned neg l ≡ whole_by neg (digits 0 l)
-unfolding unsigned
-unsigned_some neg l h = rw h
+pub unsigned_some : (neg : Bool) (l : List ℕ) → 0 < length l → unsigned neg l ≡ whole_by neg (digits 0 l)
+unfolding unsigned digit_here digits
+unsigned_some neg [] h = absurd (omega arith)
+unsigned_some neg (b ∷ l) h = go (is_digit b)
+  where
+    go : (t : Bool) → cond t (whole_by neg (cond t (digits (0 * 10 + (b - 48)) l) None)) None ≡ whole_by neg (cond t (digits (0 * 10 + (b - 48)) l) None)
+    go true = refl
+    go false = refl
 
 -- the sign
-pub read_none : (l : List ℕ) → length l ≡ 0 → read_integer l ≡ NotInteger
-unfolding read_integer
-read_none [] h = refl
-read_none (b ∷ l) h = absurd (omega arith)
+pub read_signed : (l : List ℕ) → unsigned (is_minus l) (without_sign l) ≡ read_integer l
+unfolding read_integer unsigned digit_here
+read_signed [] = refl
+read_signed (b ∷ l) = go (eqb b 45) (eqb b 43)
+  where
+    go : (m p : Bool) → unsigned m (cond (m || p) l (b ∷ l)) ≡ cond m (unsigned true l) (cond p (unsigned false l) (unsigned false (b ∷ l)))
+    go true p = refl
+    go false true = refl
+    go false false = refl
 
-pub read_minus : (l : List ℕ) → 0 < length l → get_or l 0 0 ≡ 45 → read_integer l ≡ unsigned true (drop 1 l)
-unfolding read_integer
-read_minus [] h e = absurd (omega arith)
-read_minus (b ∷ l) h e = rw (eq-eqb b 45 e)
-
-pub read_plus : (l : List ℕ) → 0 < length l → (get_or l 0 0 ≡ 45 → ⊥) → get_or l 0 0 ≡ 43 → read_integer l ≡ unsigned false (drop 1 l)
-unfolding read_integer
-read_plus [] h n e = absurd (omega arith)
-read_plus (b ∷ l) h n e = rw (ne_eqb b 45 n, eq-eqb b 43 e)
-
-pub read_bare : (l : List ℕ) → 0 < length l → (get_or l 0 0 ≡ 45 → ⊥) → (get_or l 0 0 ≡ 43 → ⊥) → read_integer l ≡ unsigned false (drop 0 l)
-unfolding read_integer
-read_bare [] h n m = absurd (omega arith)
-read_bare (b ∷ l) h n m = rw (ne_eqb b 45 n, ne_eqb b 43 m)
+-- what `unsigned` cites
+pub ruleset unsigned_laws = (unsigned_none, unsigned_some, digits_end, digits_bad, digits_more, digits_big)

@@ -1,16 +1,17 @@
 -- An integer is read exactly where the rules spell it.
+use Rattle.std.proofs.lemmas.Option.{none-some}
+use Rattle.std.proofs.Common.{Option, Some, None}
 use Prim.Native.Nat.{ℕ, ◌≤◌}
 use mathlib.Core.Path.{◌≡◌, refl, ap, sym, ◌∙◌}
 use mathlib.Core.Logic.{⊎_elim}
 use mathlib.Core.List.{List, [], ◌∷◌, ◌++◌, append_assoc, append-nil}
-use mathlib.Core.Option.{Option, none, some}
 use mathlib.Core.Bool.{Bool, true, false, cond, false≢true}
 use native.Mathlib.Omega.{arith}
 use native.Mathlib.Nat.{zero-add}
 use borrow.Author.Tests.{eqb-true, ne_eqb, le-leb, leb-true}
 use lib.Dec.{leb, eqb}
 use lib.IntN.{ℤ, pos}
-use Rattle.basics.proofs.Bools.{cond_cases, none_some}
+use Rattle.basics.proofs.Bools.{cond_cases}
 use Rattle.number.specs.Signs.{signed}
 use Rattle.law.specs.Limits.{largest_integer}
 use Rattle.law.specs.Numbers.{is_digit, Numeral, one, more}
@@ -18,8 +19,6 @@ use Rattle.number.specs.Numbers.{digit_here}
 use Rattle.number.specs.Integers.{digits, whole_by, unsigned, read_integer}
 use Rattle.law.specs.Integers.{SpellsInteger, plain, plus, minus}
 use Rattle.number.specs.declared.Integer.{Integer}
-use Rattle.number.specs.declared.WholeAnswer.{WholeAnswer}
-use Rattle.number.specs.declared.WholeAnswer.TheVariants.{Whole, NotInteger}
 use Rattle.number_read.proofs.NumberLaws.{digit_low}
 use Rattle.number_read.proofs.NumberSpelling.{digit_is, digit_val, digit_of, numeral_first}
 
@@ -30,7 +29,7 @@ digits_complete (one {d} g) rest = rw (digit_is g, digit_val g, zero-add d)
 digits_complete (more {n} {d} {b} {l} r g) rest =
     rw append_assoc (digits_complete r (b ∷ rest) ∙ rw (digit_is g, digit_val g))
 
-unsigned_complete : {n : ℕ} {l : List ℕ} → Numeral n l → n ≤ largest_integer → (neg : Bool) → unsigned neg l ≡ Whole (record { 0 = signed neg n })
+unsigned_complete : {n : ℕ} {l : List ℕ} → Numeral n l → n ≤ largest_integer → (neg : Bool) → unsigned neg l ≡ Some (record { 0 = signed neg n })
 unfolding unsigned digits
 unsigned_complete {n} {l} r h neg =
     let f = rw append-nil at (numeral_first r []) in
@@ -44,7 +43,7 @@ read_digit (b ∷ l) h =
     let low = digit_low b h in
     rw (ne_eqb b 45 (omega arith), ne_eqb b 43 (omega arith))
 
-pub integer_complete : {z : ℤ} {l : List ℕ} → SpellsInteger z l → read_integer l ≡ Whole (record { 0 = z })
+pub integer_complete : {z : ℤ} {l : List ℕ} → SpellsInteger z l → read_integer l ≡ Some (record { 0 = z })
 unfolding read_integer
 integer_complete (plain {n} {l} r h) = read_digit l (rw append-nil at (numeral_first r [])) ∙ unsigned_complete r h false
 integer_complete (plus r h) = unsigned_complete r h false
@@ -52,25 +51,18 @@ integer_complete (minus r h) = unsigned_complete r h true
 
 -- Sound
 module _ {A : Type 0} where
-  cond_some : (t : Bool) {x : Option A} {a : A} → cond t x none ≡ some a → (t ≡ true) × (x ≡ some a)
+  cond_some : (t : Bool) {x : Option A} {a : A} → cond t x None ≡ Some a → (t ≡ true) × (x ≡ Some a)
   cond_some true h = (refl, h)
-  cond_some false h = absurd (none_some h)
+  cond_some false h = absurd (none-some _ h)
 
-no_whole : {i : Integer} → NotInteger ≡ Whole i → ⊥
-no_whole {i} e = let z : ◌≡◌ {A = ℕ} 0 1 = cc in omega arith
-
-cond_whole : (t : Bool) {a : WholeAnswer} {i : Integer} → cond t a NotInteger ≡ Whole i → (t ≡ true) × (a ≡ Whole i)
-cond_whole true h = (refl, h)
-cond_whole false h = absurd (no_whole h)
-
-digits_sound : (s : List ℕ) {p : List ℕ} {n m : ℕ} → Numeral n p → digits n s ≡ some m → Numeral m (p ++ s)
+digits_sound : (s : List ℕ) {p : List ℕ} {n m : ℕ} → Numeral n p → digits n s ≡ Some m → Numeral m (p ++ s)
 unfolding digits
 digits_sound [] {p} {n} {m} r e = let z : m ≡ n = cc in rw (append-nil p, z) r
 digits_sound (b ∷ s) {p} r e =
     let g = cond_some (is_digit b) e in
     rw append_assoc at (digits_sound s (more r (digit_of g.0)) g.1)
 
-all_sound : (s : List ℕ) (m : ℕ) → digit_here s ≡ true → digits 0 s ≡ some m → Numeral m s
+all_sound : (s : List ℕ) (m : ℕ) → digit_here s ≡ true → digits 0 s ≡ Some m → Numeral m s
 unfolding digits digit_here
 all_sound [] m d e = absurd (false≢true d)
 all_sound (b ∷ s) m d e =
@@ -84,22 +76,22 @@ record Got (neg : Bool) (i : Integer) (s : List ℕ) : Type 0 where
   numeral : Numeral n s
   within : n ≤ largest_integer
 
-unsigned_sound : (s : List ℕ) (neg : Bool) (i : Integer) → unsigned neg s ≡ Whole i → Got neg i s
+unsigned_sound : (s : List ℕ) (neg : Bool) (i : Integer) → unsigned neg s ≡ Some i → Got neg i s
 unfolding unsigned
 unsigned_sound s neg i e =
-    let g = cond_whole (digit_here s) e in
+    let g = cond_some (digit_here s) e in
     go (digits 0 s) refl g.1 g.0
   where
-    go : (o : Option ℕ) → digits 0 s ≡ o → whole_by neg o ≡ Whole i → digit_here s ≡ true → Got neg i s
-    go none h e d = absurd (no_whole e)
-    go (some n) h e d =
-        let c = cond_whole (leb n largest_integer) e in
+    go : (o : Option ℕ) → digits 0 s ≡ o → whole_by neg o ≡ Some i → digit_here s ≡ true → Got neg i s
+    go None h e d = absurd (none-some _ e)
+    go (Some n) h e d =
+        let c = cond_some (leb n largest_integer) e in
         let w : record { 0 = signed neg n } ≡ i = cc c.1 in
         record { n = n; is = ap (λ (j : Integer). j.0) (sym w); numeral = all_sound s n d h; within = leb-true n largest_integer c.0 }
 
-pub integer_sound : (s : List ℕ) (i : Integer) → read_integer s ≡ Whole i → SpellsInteger i.0 s
+pub integer_sound : (s : List ℕ) (i : Integer) → read_integer s ≡ Some i → SpellsInteger i.0 s
 unfolding read_integer
-integer_sound [] i h = absurd (no_whole h)
+integer_sound [] i h = absurd (none-some _ h)
 integer_sound (b ∷ s) i h =
     ⊎_elim
     (λ e. let r = unsigned_sound s true i e.1 in rw (eqb-true b 45 e.0, r.is) (minus r.numeral r.within))
@@ -110,6 +102,6 @@ integer_sound (b ∷ s) i h =
     (cond_cases (eqb b 45) h)
 
 -- So a list of bytes spells one integer at most
-held : WholeAnswer → ℤ
-held (Whole i) = i.0
-held NotInteger = pos 0
+held : Option Integer → ℤ
+held (Some i) = i.0
+held None = pos 0

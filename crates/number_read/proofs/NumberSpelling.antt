@@ -1,4 +1,5 @@
 -- A number is read exactly where the rules spell it.
+use Rattle.std.proofs.Common.{Result, Ok, Err}
 use Prim.Native.Nat.{ℕ, zero, suc, ◌+◌, ◌*◌, ◌-◌, ◌/◌, ◌^◌, ◌≤◌}
 use mathlib.Core.Path.{◌≡◌, refl, ◌∙◌}
 use mathlib.Core.Logic.{⊎_elim}
@@ -13,8 +14,8 @@ use Rattle.basics.proofs.Bools.{and_left, and_right, cond_cases, neither}
 use Rattle.number.specs.Signs.{signed}
 use Rattle.law.specs.Numbers.{is_digit, Digit, Numeral, one, more, Decimals, last, next, Unsigned, no_point, with_point, SpellsNumber, plain, plus, minus}
 use Rattle.number.specs.Numbers.{digit_here, to_count, decimals, whole, body, read_number}
-use Rattle.number.specs.declared.NumberAnswer.{NumberAnswer}
-use Rattle.number.specs.declared.NumberAnswer.TheVariants.{Count, NotNumber}
+use Rattle.number.specs.declared.NumberError.{NumberError}
+use Rattle.number.specs.declared.NumberError.TheVariants.{NotNumber}
 use Rattle.number.proofs.SignLaws.{abs_signed}
 use Rattle.number_read.proofs.NumberLaws.{digit_low, digit_high}
 
@@ -66,7 +67,7 @@ module _ (x : ℕ) where
   unsigned_counted {u} (with_point {n} {v} {l} {m} r f) neg =
       numeral_body r u neg (46 ∷ m) ∙ rw (decimals_first f) (decimals_complete f neg (n * u))
 
-  unsigned_complete : {u c : ℕ} {l : List ℕ} → Unsigned u c l → c ≤ x → (neg : Bool) → body x u neg l ≡ Count (signed neg c)
+  unsigned_complete : {u c : ℕ} {l : List ℕ} → Unsigned u c l → c ≤ x → (neg : Bool) → body x u neg l ≡ Ok (signed neg c)
   unfolding to_count
   unsigned_complete {u} {c} r h neg = unsigned_counted r neg ∙ rw (le-leb c x h)
 
@@ -81,14 +82,14 @@ module _ (x : ℕ) where
       let low = digit_low b h in
       rw (ne_eqb b 45 (omega arith), ne_eqb b 43 (omega arith))
 
-pub number_complete : {k x : ℕ} {z : ℤ} {l : List ℕ} → SpellsNumber k x z l → read_number k x l ≡ Count z
+pub number_complete : {k x : ℕ} {z : ℤ} {l : List ℕ} → SpellsNumber k x z l → read_number k x l ≡ Ok z
 unfolding read_number
 number_complete {k} {x} (plain {c} {l} u h) = read_digit x k l (unsigned_first x u) ∙ unsigned_complete x u h false
 number_complete {k} {x} (plus u h) = unsigned_complete x u h false
 number_complete {k} {x} (minus u h) = unsigned_complete x u h true
 
 -- Sound: a count that is read is spelled so
-cond_count : (t : Bool) {a : NumberAnswer} {z : ℤ} → cond t a NotNumber ≡ Count z → (t ≡ true) × (a ≡ Count z)
+cond_count : (t : Bool) {a : Result ℤ NumberError} {z : ℤ} → cond t a (Err NotNumber) ≡ Ok z → (t ≡ true) × (a ≡ Ok z)
 cond_count true h = (refl, h)
 cond_count false h = let z : ◌≡◌ {A = ℕ} 0 1 = cc in absurd (omega arith)
 
@@ -99,7 +100,7 @@ module _ (x : ℕ) where
     is : z ≡ signed neg m
     within : m ≤ x
 
-  count_sound : (neg fine : Bool) (m : ℕ) {z : ℤ} → to_count x neg fine m ≡ Count z → Counted neg fine m z
+  count_sound : (neg fine : Bool) (m : ℕ) {z : ℤ} → to_count x neg fine m ≡ Ok z → Counted neg fine m z
   unfolding to_count
   count_sound neg true m h =
       let e = (cond_count (leb m x) h).1 in
@@ -122,7 +123,7 @@ module _ (x : ℕ) where
     is : z ≡ signed neg (m + v)
     within : m + v ≤ x
 
-  decimals_sound : (b : ℕ) (l : List ℕ) (neg fine : Bool) (w m : ℕ) {z : ℤ} → decimals x neg fine w m (b ∷ l) ≡ Count z → Got w m neg fine z (b ∷ l)
+  decimals_sound : (b : ℕ) (l : List ℕ) (neg fine : Bool) (w m : ℕ) {z : ℤ} → decimals x neg fine w m (b ∷ l) ≡ Ok z → Got w m neg fine z (b ∷ l)
   unfolding decimals
   decimals_sound b [] neg fine w m h =
       let e = cond_count (is_digit b) h in
@@ -143,14 +144,14 @@ module _ (x : ℕ) where
     is : z ≡ signed neg c
     within : c ≤ x
 
-  point_sound : (u : ℕ) (l : List ℕ) {p : List ℕ} {n : ℕ} → Numeral n p → (neg : Bool) {z : ℤ} → digit_here l ≡ true → decimals x neg false (u / 10) (n * u) l ≡ Count z → Read u neg z (p ++ 46 ∷ l)
+  point_sound : (u : ℕ) (l : List ℕ) {p : List ℕ} {n : ℕ} → Numeral n p → (neg : Bool) {z : ℤ} → digit_here l ≡ true → decimals x neg false (u / 10) (n * u) l ≡ Ok z → Read u neg z (p ++ 46 ∷ l)
   unfolding digit_here
   point_sound u [] r neg d h = absurd (false≢true d)
   point_sound u (b ∷ l) {p} r neg d h =
       let g = decimals_sound b l neg false _ _ h in
       record { c = _; spelled = with_point r g.spelled; is = g.is; within = g.within }
 
-  whole_sound : (u : ℕ) (l : List ℕ) {p : List ℕ} {n : ℕ} → Numeral n p → (neg : Bool) {z : ℤ} → whole x u neg n l ≡ Count z → Read u neg z (p ++ l)
+  whole_sound : (u : ℕ) (l : List ℕ) {p : List ℕ} {n : ℕ} → Numeral n p → (neg : Bool) {z : ℤ} → whole x u neg n l ≡ Ok z → Read u neg z (p ++ l)
   unfolding whole
   whole_sound u [] {p} {n} r neg h =
       let j = count_sound neg false _ h in
@@ -163,14 +164,14 @@ module _ (x : ℕ) where
       rw (eqb-true b 46 (and_left _ _ f.0)) (point_sound u l r neg (and_right (eqb b 46) _ f.0) f.1))
       (cond_cases (is_digit b) h)
 
-  body_sound : (u : ℕ) (l : List ℕ) (neg : Bool) {z : ℤ} → body x u neg l ≡ Count z → Read u neg z l
+  body_sound : (u : ℕ) (l : List ℕ) (neg : Bool) {z : ℤ} → body x u neg l ≡ Ok z → Read u neg z l
   unfolding body digit_here whole
   body_sound u [] neg h = let z : ◌≡◌ {A = ℕ} 0 1 = cc in absurd (omega arith)
   body_sound u (b ∷ l) neg h =
       let e = cond_count (is_digit b) h in
       whole_sound u l (one (digit_of e.0)) neg (rw (e.0, zero-add) at e.1)
 
-pub number_sound : (k x : ℕ) (l : List ℕ) {z : ℤ} → read_number k x l ≡ Count z → SpellsNumber k x z l
+pub number_sound : (k x : ℕ) (l : List ℕ) {z : ℤ} → read_number k x l ≡ Ok z → SpellsNumber k x z l
 unfolding read_number
 number_sound k x [] h = let z : ◌≡◌ {A = ℕ} 0 1 = cc in absurd (omega arith)
 number_sound k x (b ∷ l) h =

@@ -1,15 +1,16 @@
 // A number, an integer and a date from the bytes of a field. A numeral may have any length; its value decides.
 #![tactic(auto)]
 
-ghost use Rattle.std.specs.Prelude.{◌≡◌, false, ◌+◌, ◌*◌, ◌^◌, ◌≤◌, ◌<◌, ltb, length, drop, get_or};
+ghost use Rattle.std.specs.Prelude.{◌≡◌, false, ◌/◌, ◌+◌, ◌*◌, ◌^◌, ◌≤◌, ◌<◌, length, get_or};
 ghost use Rattle.number.specs.Signs.{signed};
-ghost use Rattle.law.specs.Limits.{largest_length, largest_integer, most_decimals};
+ghost use Rattle.law.specs.Limits.{largest_length, most_decimals};
 ghost use Rattle.law.specs.Numbers.{is_digit};
 ghost use Rattle.number.specs.Numbers.{digit_here, to_count, decimals, whole, body, read_number};
-ghost use Rattle.number.specs.Integers.{whole_of, unsigned, read_integer};
+ghost use Rattle.number.specs.Integers.{unsigned, read_integer};
+ghost use Rattle.number_read.specs.Signs.{is_minus, without_sign};
 ghost use Rattle.law.specs.Dates.{is_two, is_date};
 
-use number::{Integer, IntegerAnswer, NumberAnswer, WholeAnswer};
+use number::{Integer, NumberError};
 
 // A sign and a magnitude as a signed number.
 fn value(neg: bool, n: u64) -> i64
@@ -20,28 +21,34 @@ fn value(neg: bool, n: u64) -> i64
     if neg { -v } else { v }
 }
 
-// A byte as a wider number.
-fn wide(b: u8) -> u64
-    ensures { result ≡ b }
-{
-    b as u64
-}
-
 // Whether a byte is a digit.
 fn is_digit(b: u8) -> bool
     ensures { result ≡ is_digit b }
 {
-    (48 <= b) & (b <= 57)
+    b.is_ascii_digit()
 }
 
-// Whether there is a digit at a place.
-fn digit_at(s: &[u8], at: usize) -> bool
-    ensures { result ≡ digit_here (drop at s.now) }
+// Whether bytes begin with a digit.
+#[tactic(auto, using(crate::proofs::NumberLaws::first_laws))]
+fn starts_with_digit(s: &[u8]) -> bool
+    ensures { result ≡ digit_here s.now }
 {
-    if s.len() <= at {
-        return false;
+    match s {
+        [b, ..] => is_digit(*b),
+        [] => false,
     }
-    is_digit(s[at])
+}
+
+// Whether bytes begin with a minus, and what follows their sign, or all of them where they have none.
+fn split_sign(s: &[u8]) -> (bool, &[u8])
+    ensures minus { result.0 ≡ is_minus s.now }
+    ensures rest { result.1.now ≡ without_sign s.now }
+{
+    match s {
+        [b'-', rest @ ..] => (true, rest),
+        [b'+', rest @ ..] => (false, rest),
+        _ => (false, s),
+    }
 }
 
 // How many counts make a whole, where so many decimals are kept.
@@ -59,171 +66,129 @@ fn counts(kept: usize) -> u64
     }
 }
 
-// The answer for a count n; `fine` says that a decimal past those kept was not 0.
-fn to_count(largest: u64, neg: bool, fine: bool, n: u64) -> NumberAnswer
-    requires { largest ≤ largest_length }
-    ensures { result ≡ to_count largest neg fine n }
-{
-    if largest < n {
-        return NumberAnswer::NotNumber;
-    }
-    if fine {
-        return NumberAnswer::TooFine;
-    }
-    NumberAnswer::Count(value(neg, n))
-}
-
-// The decimals from `at` on, after a whole part: the first weighs `first`, each other a tenth of the one before it.
-fn decimal_part(
-    s: &[u8],
-    at: usize,
+// What a magnitude is read by: the most counts that it may have, whether it is below zero, how many counts make a whole.
+#[derive(Clone, Copy)]
+struct Reader {
     largest: u64,
     neg: bool,
-    first: u64,
-    whole: u64,
-) -> NumberAnswer
-    requires { (at ≤ length s.now) × (largest ≤ largest_length) × (whole + 10 * first ≤ 10000000000000000) }
-    ensures { result ≡ decimals largest neg false first whole (drop at s.now) }
-{
-    let mut fine = false;
-    let mut w: u64 = first;
-    let mut m = whole;
-    let mut i = at;
-    while i < s.len() {
-        let b = s[i];
-        if !is_digit(b) {
-            return NumberAnswer::NotNumber;
-        }
-        fine = fine | ((w == 0) & (b != 48));
-        m = m + (wide(b) - 48) * w;
-        w = w / 10;
-        i += 1;
-    }
-    to_count(largest, neg, fine, m)
+    unit: u64,
+    ghost small: { largest ≤ largest_length },
+    ghost some: { 0 < unit },
+    ghost bound: { unit ≤ 100000 },
 }
 
-// The digits from `at` on, and what follows them; `unit` counts make a whole.
-fn whole_part(s: &[u8], at: usize, largest: u64, neg: bool, unit: u64) -> NumberAnswer
-    requires { (at ≤ length s.now) × (largest ≤ largest_length) × (0 < unit) × (unit ≤ 100000) }
-    ensures { result ≡ whole largest unit neg 0 (drop at s.now) }
-{
-    let mut n: u64 = 0;
-    let mut i = at;
-    while i < s.len() {
-        let b = s[i];
-        if is_digit(b) {
-            n = n * 10 + (wide(b) - 48);
-            if largest < n {
-                return NumberAnswer::NotNumber;
-            }
-        } else {
-            if b != 46 {
-                return NumberAnswer::NotNumber;
-            }
-            if !digit_at(s, i + 1) {
-                return NumberAnswer::NotNumber;
-            }
-            return decimal_part(s, i + 1, largest, neg, unit / 10, n * unit);
+impl Reader {
+    // The answer for a count; `fine` says that a decimal past those kept was not 0.
+    #[tactic(auto, unfolding(number::specs::Numbers::to_count))]
+    fn to_count(self, fine: bool, count: u64) -> Result<i64, NumberError>
+        ensures { result ≡ to_count self.largest self.neg fine count }
+    {
+        if self.largest < count {
+            return Err(NumberError::NotNumber);
         }
-        i += 1;
+        if fine {
+            return Err(NumberError::TooFine);
+        }
+        Ok(value(self.neg, count))
     }
-    to_count(largest, neg, false, n * unit)
-}
 
-// A number without its sign.
-fn body_at(s: &[u8], at: usize, largest: u64, neg: bool, unit: u64) -> NumberAnswer
-    requires { (at ≤ length s.now) × (largest ≤ largest_length) × (0 < unit) × (unit ≤ 100000) }
-    ensures { result ≡ body largest unit neg (drop at s.now) }
-{
-    if !digit_at(s, at) {
-        return NumberAnswer::NotNumber;
+    // The decimals after a whole part of so many counts: the first weighs a tenth of a whole, each next a tenth of the one before it.
+    #[tactic(auto, using(crate::proofs::NumberLaws::decimal_laws))]
+    fn decimals(self, s: &[u8], whole: u64) -> Result<i64, NumberError>
+        requires { whole + self.unit ≤ 10000000000000000 }
+        ensures { result ≡ decimals self.largest self.neg false (self.unit / 10) whole s.now }
+    {
+        let mut fine = false;
+        let mut weight = self.unit / 10;
+        let mut count = whole;
+        for &b in s {
+            if !is_digit(b) {
+                return Err(NumberError::NotNumber);
+            }
+            fine |= (weight == 0) & (b != b'0');
+            count += u64::from(b - b'0') * weight;
+            weight /= 10;
+        }
+        self.to_count(fine, count)
     }
-    whole_part(s, at, largest, neg, unit)
+
+    // The digits before a point, and what follows them.
+    #[tactic(auto, using(crate::proofs::NumberLaws::whole_laws))]
+    fn whole(self, s: &[u8]) -> Result<i64, NumberError>
+        ensures { result ≡ whole self.largest self.unit self.neg 0 s.now }
+    {
+        let mut n = 0;
+        for (at, &b) in s.iter().enumerate() {
+            if !is_digit(b) {
+                let after = &s[at + 1..];
+                if b == b'.' && starts_with_digit(after) {
+                    return self.decimals(after, n * self.unit);
+                }
+                return Err(NumberError::NotNumber);
+            }
+            n = n * 10 + u64::from(b - b'0');
+            if self.largest < n {
+                return Err(NumberError::NotNumber);
+            }
+        }
+        self.to_count(false, n * self.unit)
+    }
+
+    // A number without its sign: at least one digit stands before the point.
+    #[tactic(auto, unfolding(number::specs::Numbers::body))]
+    fn body(self, s: &[u8]) -> Result<i64, NumberError>
+        ensures { result ≡ body self.largest self.unit self.neg s.now }
+    {
+        if !starts_with_digit(s) {
+            return Err(NumberError::NotNumber);
+        }
+        self.whole(s)
+    }
 }
 
 // A number of which so many decimals are kept, at most `largest` counts either way.
-pub fn number(s: &[u8], kept: usize, largest: u64) -> NumberAnswer
+#[tactic(auto, using(crate::proofs::NumberLaws::sign_laws))]
+pub fn number(s: &[u8], kept: usize, largest: u64) -> Result<i64, NumberError>
     requires { (kept ≤ most_decimals) × (largest ≤ largest_length) }
     ensures { result ≡ read_number kept largest s.now }
 {
-    if s.len() == 0 {
-        return NumberAnswer::NotNumber;
-    }
+    let (neg, magnitude) = split_sign(s);
     let unit = counts(kept);
-    let b = s[0];
-    if b == 45 {
-        return body_at(s, 1, largest, true, unit);
-    }
-    if b == 43 {
-        return body_at(s, 1, largest, false, unit);
-    }
-    body_at(s, 0, largest, false, unit)
+    Reader { largest, neg, unit }.body(magnitude)
 }
 
-// An integer of a sign and a magnitude.
-fn whole_of(neg: bool, n: u64) -> WholeAnswer
-    requires { n < 2 ^ 63 }
-    ensures { result ≡ whole_of neg n }
+// Digits, at least one, and nothing else.
+#[tactic(auto, using(crate::proofs::IntegerLaws::unsigned_laws))]
+fn unsigned(s: &[u8], neg: bool) -> Option<Integer>
+    ensures { result ≡ unsigned neg s.now }
 {
-    match Integer::new(value(neg, n)) {
-        IntegerAnswer::Made(z) => WholeAnswer::Whole(z),
-        IntegerAnswer::Beyond => WholeAnswer::NotInteger,
+    if s.is_empty() {
+        return None;
     }
-}
-
-// Whether a magnitude is beyond every integer.
-fn is_beyond(n: u64) -> bool
-    requires { n < 2 ^ 63 }
-    ensures { result ≡ ltb largest_integer n }
-{
-    match Integer::new(value(false, n)) {
-        IntegerAnswer::Made(_) => false,
-        IntegerAnswer::Beyond => true,
-    }
-}
-
-// The digits from `at` on, to the end.
-fn unsigned_at(s: &[u8], at: usize, neg: bool) -> WholeAnswer
-    requires { at ≤ length s.now }
-    ensures { result ≡ unsigned neg (drop at s.now) }
-{
-    if !digit_at(s, at) {
-        return WholeAnswer::NotInteger;
-    }
-    let mut n: u64 = 0;
-    let mut i = at;
-    while i < s.len() {
-        let b = s[i];
+    let mut n = 0;
+    for &b in s {
         if !is_digit(b) {
-            return WholeAnswer::NotInteger;
+            return None;
         }
-        n = n * 10 + (wide(b) - 48);
-        if is_beyond(n) {
-            return WholeAnswer::NotInteger;
+        n = n * 10 + u64::from(b - b'0');
+        if Integer::LARGEST < n {
+            return None;
         }
-        i += 1;
     }
-    whole_of(neg, n)
+    Integer::new(value(neg, n))
 }
 
 // An integer: an optional sign and digits.
-pub fn integer(s: &[u8]) -> WholeAnswer
+#[tactic(auto, using(crate::proofs::IntegerLaws::read_signed))]
+pub fn integer(s: &[u8]) -> Option<Integer>
     ensures { result ≡ read_integer s.now }
 {
-    if s.len() == 0 {
-        return WholeAnswer::NotInteger;
-    }
-    let b = s[0];
-    if b == 45 {
-        return unsigned_at(s, 1, true);
-    }
-    if b == 43 {
-        return unsigned_at(s, 1, false);
-    }
-    unsigned_at(s, 0, false)
+    let (neg, digits) = split_sign(s);
+    unsigned(digits, neg)
 }
 
 // Whether two digits at a place have a value from `lo` to `hi`.
+#[tactic(auto, unfolding(law::specs::Dates::is_two))]
 fn two(s: &[u8], at: usize, lo: u8, hi: u8) -> bool
     requires { at + 2 ≤ length s.now }
     ensures { result ≡ is_two lo hi (get_or s.now at 0) (get_or s.now (at + 1) 0) }

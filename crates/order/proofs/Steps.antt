@@ -3,9 +3,12 @@ use Prim.Native.Nat.{ℕ}
 use mathlib.Core.Path.{◌≡◌, refl, sym, ◌∙◌}
 use mathlib.Core.Bool.{Bool, true, false, cond, ◌&&◌, ◌||◌, false≢true}
 use lib.Dec.{eqb}
+use Rattle.std.specs.Prelude.{Result, Ok as next, Err as refused}
 use Rattle.rows.specs.declared.Point.{Point}
 use Rattle.law.specs.Values.{Rec}
-use Rattle.law.specs.Kinds.{section_of, Role, closing, title, point, prop, entry, part, role_of}
+use Rattle.law.specs.Kinds.{section_of, role_of}
+use Rattle.law.specs.declared.Role.{Role}
+use Rattle.law.specs.declared.Role.TheVariants.{Closing as closing, Title as title, Point as point, Prop as prop, Entry as entry, Part as part}
 use Rattle.law.specs.Fits.{under, well_formed}
 use Rattle.law.specs.declared.Rules.{Rules}
 use Rattle.law.specs.declared.FileType.{FileType}
@@ -19,9 +22,8 @@ use Rattle.order.specs.declared.Phase.{Phase}
 use Rattle.order.specs.declared.Phase.TheVariants.{AwaitTitle as await_title, AwaitName as await_name, HeaderFull as header_full, AwaitLead as await_lead, InPoints as in_points, InProps as in_props, InList as in_list, AwaitPart as await_part, AwaitPosition as await_position}
 use Rattle.order.specs.declared.State.{State}
 use Rattle.order.specs.declared.State.TheVariants.{Between as between, Inside as inside}
+use Rattle.order.specs.declared.Reason.{Reason}
 use Rattle.order.specs.declared.Reason.TheVariants.{Misplaced as misplaced, Unfit as unfit}
-use Rattle.order.specs.declared.Outcome.{Outcome}
-use Rattle.order.specs.declared.Outcome.TheVariants.{Next as next, Refused as refused}
 
 -- two roles that are looked for in turn
 two_ways : (a b fit : Bool) (x y : State)
@@ -31,7 +33,7 @@ two_ways false true fit x y = refl
 two_ways false false fit x y = refl
 
 -- a point; or PROP or the closing line, once the loop is complete
-three_ways : (a b c fit done : Bool) (o : Outcome) (x y : State)
+three_ways : (a b c fit done : Bool) (o : Result State Reason) (x y : State)
     → if_fit a fit o (if_fit b fit (only_if done (next x)) (if_fit c fit (only_if done (next y)) (refused misplaced)))
     ≡ cond (a || b || c) (cond fit (cond a o (only_if done (next (cond b x y)))) (refused unfit)) (refused misplaced)
 three_ways true b c fit done o x y = refl

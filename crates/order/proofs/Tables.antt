@@ -2,13 +2,15 @@
 use Prim.Native.Nat.{ℕ}
 use mathlib.Core.Path.{◌≡◌, refl}
 use mathlib.Core.List.{List, [], ◌∷◌}
-use mathlib.Core.Option.{Option, none, some}
 use mathlib.Core.Bool.{Bool, true, false, cond}
 use lib.IntN.{pos}
+use Rattle.std.specs.Prelude.{Option, Some as some, None as none, Result, Ok as next, Err as refused}
 use Rattle.rows.specs.declared.Point.{Point}
 use Rattle.basics.specs.Integers.{eq_z}
 use Rattle.law.specs.Sections.{sections}
 use Rattle.law.specs.Kinds.{kind_at, section_of, line_of, role_of}
+use Rattle.law.specs.declared.Role.{Role}
+use Rattle.law.specs.declared.Role.TheVariants as role
 use Rattle.form.specs.declared.Keyword.TheVariants.{Opening, Closing, Unknown}
 use Rattle.law.specs.declared.Rules.TheVariants.{Idf3}
 use Rattle.law.specs.declared.FileType.TheVariants.{Board as board, Panel as panel, Library as library}
@@ -16,7 +18,7 @@ use Rattle.law.specs.Records.{shape_of, many_loops, is_middle}
 use Rattle.order_loops.specs.Loops.{loop_after}
 use Rattle.order.specs.Stages.{may_open, after, may_end}
 use Rattle.order.specs.Places.{data_kind, key_kind}
-use Rattle.order.specs.Automaton.{start_of, stands_by, moved_by, may_stand}
+use Rattle.order.specs.Automaton.{start_of, stands_in, moved_in, may_stand}
 use Rattle.order_loops.specs.declared.Place.{Place}
 use Rattle.order.specs.declared.Stage.{Stage}
 use Rattle.order.specs.declared.Stage.TheVariants.{Nothing as nothing, Headed as headed, Middle as middle, Finished as finished}
@@ -24,13 +26,13 @@ use Rattle.order_loops.specs.declared.LoopState.{LoopState}
 use Rattle.order_loops.specs.declared.LoopState.TheVariants.{NoPoint as no_point, OnePoint as one_point, Away as away, Back as back, Round as round}
 use Rattle.order.specs.declared.Phase.{Phase}
 use Rattle.order.specs.declared.Phase.TheVariants.{AwaitTitle as await_title, AwaitName as await_name, HeaderFull as header_full, AwaitLead as await_lead, InPoints as in_points, InProps as in_props, InList as in_list, AwaitPart as await_part, AwaitPosition as await_position}
+use Rattle.order.specs.declared.State.{State}
 use Rattle.order.specs.declared.State.TheVariants.{Between as between, Inside as inside}
+use Rattle.order.specs.declared.Reason.{Reason}
 use Rattle.order.specs.declared.Reason.TheVariants.{BadLoop as bad_loop}
-use Rattle.order.specs.declared.Outcome.{Outcome}
-use Rattle.order.specs.declared.Outcome.TheVariants.{Next as next, Refused as refused}
 
--- the numbers of a list that pass a test
-abbrev chosen : (ℕ → Bool) → List ℕ → List ℕ
+-- what of a list passes a test
+abbrev chosen : {A : Type 0} → (A → Bool) → List A → List A
 chosen f [] = []
 chosen f (n ∷ ns) = cond (f n) (n ∷ chosen f ns) (chosen f ns)
 
@@ -109,17 +111,17 @@ abbrev turn : ℕ
 turn = 36_000_000
 
 -- which roles may stand, of all
-abbrev stands : Phase → List ℕ
-stands p = chosen (stands_by p) (0 ∷ 1 ∷ 2 ∷ 3 ∷ 4 ∷ 5 ∷ 6 ∷ 7 ∷ 8 ∷ 9 ∷ 10 ∷ [])
+abbrev stands : Phase → List Role
+stands p = chosen (stands_in p) (role.Opening ∷ role.Title ∷ role.Name ∷ role.Lead ∷ role.Point ∷ role.Prop ∷ role.Entry ∷ role.Part ∷ role.Position ∷ role.Closing ∷ role.Unknown ∷ [])
 
 -- what a line does in section s of a board, by its role
-abbrev moves : ℕ → Phase → ℕ → Outcome
-moves s p n = moved_by (middle board false false) s p n board (at here 0 0)
+abbrev moves : ℕ → Phase → Role → Result State Reason
+moves s p a = moved_in (middle board false false) s p a board (at here 0 0)
 
-abbrev on : ℕ → Phase → Outcome
+abbrev on : ℕ → Phase → Result State Reason
 on s p = next (inside (middle board false false) s p)
 
-abbrev out : Outcome
+abbrev out : Result State Reason
 out = next (between (middle board false false))
 
 -- the kind of a data line in section s; marked with the bare word PROP or not
@@ -127,34 +129,34 @@ abbrev kinds : ℕ → Phase → List ℕ
 kinds s p = data_kind Idf3 (inside nothing s p) false ∷ data_kind Idf3 (inside nothing s p) true ∷ []
 
 pub record Within : Type 0 where
-  title : stands await_title ≡ 1 ∷ []
-  title_board : moves 1 await_title 1 ≡ on 1 (await_name board)
-  title_library : moved_by nothing 1 await_title 1 library (at here 0 0) ≡ next (inside nothing 1 (header_full library))
-  name : stands (await_name board) ≡ 2 ∷ []
-  name_moves : moves 1 (await_name panel) 2 ≡ on 1 (header_full panel)
-  full : stands (header_full board) ≡ 9 ∷ []
-  full_moves : moves 1 (header_full panel) 9 ≡ next (between (headed panel))
-  lead : stands await_lead ≡ 3 ∷ []
-  lead_moves : moves 5 await_lead 3 ≡ on 5 (in_points no_point)
-  points : stands (in_points no_point) ≡ 4 ∷ 5 ∷ 9 ∷ []
-  closed_at_once : moves 8 (in_points no_point) 9 ≡ refused bad_loop
-  closed_after_one : moves 8 (in_points (one_point (pos 0) here)) 9 ≡ refused bad_loop
-  closed_away : moves 8 (in_points (away (pos 0) here there)) 9 ≡ refused bad_loop
-  closed_back : moves 8 (in_points (back (pos 0) here)) 9 ≡ out
-  closed_round : moves 8 (in_points (round (pos 0))) 9 ≡ out
-  prop_away : moves 14 (in_points (away (pos 0) here there)) 5 ≡ refused bad_loop
-  prop_back : moves 14 (in_points (back (pos 0) here)) 5 ≡ on 14 in_props
-  props : stands in_props ≡ 5 ∷ 9 ∷ []
-  props_go_on : moves 14 in_props 5 ≡ on 14 in_props
-  props_end : moves 14 in_props 9 ≡ out
-  entries : stands in_list ≡ 6 ∷ 9 ∷ []
-  entries_go_on : moves 7 in_list 6 ≡ on 7 in_list
-  entries_end : moves 7 in_list 9 ≡ out
-  part : stands await_part ≡ 7 ∷ 9 ∷ []
-  part_moves : moves 7 await_part 7 ≡ on 7 await_position
-  parts_end : moves 7 await_part 9 ≡ out
-  position : stands await_position ≡ 8 ∷ []
-  position_moves : moves 13 await_position 8 ≡ on 13 await_part
+  title : stands await_title ≡ role.Title ∷ []
+  title_board : moves 1 await_title role.Title ≡ on 1 (await_name board)
+  title_library : moved_in nothing 1 await_title role.Title library (at here 0 0) ≡ next (inside nothing 1 (header_full library))
+  name : stands (await_name board) ≡ role.Name ∷ []
+  name_moves : moves 1 (await_name panel) role.Name ≡ on 1 (header_full panel)
+  full : stands (header_full board) ≡ role.Closing ∷ []
+  full_moves : moves 1 (header_full panel) role.Closing ≡ next (between (headed panel))
+  lead : stands await_lead ≡ role.Lead ∷ []
+  lead_moves : moves 5 await_lead role.Lead ≡ on 5 (in_points no_point)
+  points : stands (in_points no_point) ≡ role.Point ∷ role.Prop ∷ role.Closing ∷ []
+  closed_at_once : moves 8 (in_points no_point) role.Closing ≡ refused bad_loop
+  closed_after_one : moves 8 (in_points (one_point (pos 0) here)) role.Closing ≡ refused bad_loop
+  closed_away : moves 8 (in_points (away (pos 0) here there)) role.Closing ≡ refused bad_loop
+  closed_back : moves 8 (in_points (back (pos 0) here)) role.Closing ≡ out
+  closed_round : moves 8 (in_points (round (pos 0))) role.Closing ≡ out
+  prop_away : moves 14 (in_points (away (pos 0) here there)) role.Prop ≡ refused bad_loop
+  prop_back : moves 14 (in_points (back (pos 0) here)) role.Prop ≡ on 14 in_props
+  props : stands in_props ≡ role.Prop ∷ role.Closing ∷ []
+  props_go_on : moves 14 in_props role.Prop ≡ on 14 in_props
+  props_end : moves 14 in_props role.Closing ≡ out
+  entries : stands in_list ≡ role.Entry ∷ role.Closing ∷ []
+  entries_go_on : moves 7 in_list role.Entry ≡ on 7 in_list
+  entries_end : moves 7 in_list role.Closing ≡ out
+  part : stands await_part ≡ role.Part ∷ role.Closing ∷ []
+  part_moves : moves 7 await_part role.Part ≡ on 7 await_position
+  parts_end : moves 7 await_part role.Closing ≡ out
+  position : stands await_position ≡ role.Position ∷ []
+  position_moves : moves 13 await_position role.Position ≡ on 13 await_part
   begins_title : start_of (shape_of Idf3 1) ≡ await_title
   begins_lead : start_of (shape_of Idf3 10) ≡ await_lead
   begins_points : start_of (shape_of Idf3 8) ≡ in_points no_point

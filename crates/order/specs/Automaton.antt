@@ -1,13 +1,16 @@
 -- The permitted lists one record at a time: what a record does to a state, and where a list may end.
-use Rattle.std.specs.Prelude.{ℕ, suc, List, [], ◌∷◌, Bool, false, cond, ◌&&◌, ◌||◌, eqb}
-use Rattle.std.proofs.Math.Option.{Option, none, some}
+use Rattle.std.specs.Prelude.{ℕ, suc, List, [], ◌∷◌, Bool, false, cond, ◌&&◌, ◌||◌, eqb, Option, Some as some, None as none, Result, Ok as next, Err as refused}
 use Rattle.rows.specs.declared.Point.{Point}
 use Rattle.law.specs.Values.{Rec}
 use Rattle.law.specs.Words.{same_bytes}
 use Rattle.law.specs.Sections.{Shape, header, outline, component, keepout, listing, placements}
-use Rattle.law.specs.Kinds.{section_of, Role, opening, closing, title, name, lead, point, prop, entry, part, position, unknown, role_of}
+use Rattle.law.specs.Kinds.{section_of, role_of}
+use Rattle.law.specs.declared.Role.{Role}
+use Rattle.law.specs.declared.Role.TheVariants.{Opening as opening, Closing as closing, Title as title, Name as name, Lead as lead, Point as point, Prop as prop, Entry as entry, Part as part, Position as position, Unknown as unknown}
 use Rattle.law.specs.Fits.{under, well_formed}
 use Rattle.law.specs.declared.Rules.{Rules}
+use Rattle.law.specs.declared.refusals.Refusal.{Refusal}
+use Rattle.law.specs.declared.refusals.Refusal.TheVariants.{Misplaced, LoopRule, NameAgain}
 use Rattle.law.specs.declared.FileType.{FileType}
 use Rattle.law.specs.declared.FileType.TheVariants.{Board as board, Panel as panel, Library as library}
 use Rattle.law.specs.Records.{shape_of, many_loops, type_in, Named, names_a_component, name_in}
@@ -23,16 +26,14 @@ use Rattle.order.specs.declared.State.{State}
 use Rattle.order.specs.declared.State.TheVariants.{Between as between, Inside as inside}
 use Rattle.order.specs.declared.Reason.{Reason}
 use Rattle.order.specs.declared.Reason.TheVariants.{Misplaced as misplaced, Unfit as unfit, BadLoop as bad_loop, Repeated as repeated}
-use Rattle.order.specs.declared.Outcome.{Outcome}
-use Rattle.order.specs.declared.Outcome.TheVariants.{Next as next, Refused as refused}
 use Rattle.order.specs.Stages.{may_open, after, may_end, file_of}
 
--- the number of a refusal; n is that of the line's fields, where those do not fit
-abbrev pub refusal_number : Reason → ℕ → ℕ
-refusal_number misplaced n = 5
-refusal_number unfit n = n
-refusal_number bad_loop n = 11
-refusal_number repeated n = 12
+-- a reason as a refusal; f is that of the line's fields, where those do not fit
+abbrev pub refusal_of : Reason → Refusal → Refusal
+refusal_of misplaced f = Misplaced
+refusal_of unfit f = f
+refusal_of bad_loop f = LoopRule
+refusal_of repeated f = NameAgain
 
 -- no section behind us, and none open
 abbrev pub start : State
@@ -65,7 +66,7 @@ abbrev pub is_role : Role → Role → Bool
 is_role a b = eqb (role_number a) (role_number b)
 
 -- what x is, if the record has the role that it is looked at for and is well formed; otherwise y
-abbrev pub if_fit : Bool → Bool → Outcome → Outcome → Outcome
+abbrev pub if_fit : Bool → Bool → Result State Reason → Result State Reason → Result State Reason
 if_fit has_role fit x y = cond has_role (cond fit x (refused unfit)) y
 
 -- after the title line comes, not in a library, the line with name and unit
@@ -75,16 +76,16 @@ after_title panel = await_name panel
 after_title library = header_full library
 
 -- a point that breaks the loop rule is refused
-abbrev pub after_point : Stage → ℕ → Option LoopState → Outcome
+abbrev pub after_point : Stage → ℕ → Option LoopState → Result State Reason
 after_point g s none = refused bad_loop
 after_point g s (some l) = next (inside g s (in_points l))
 
 -- a closing or PROP line before the loop is complete breaks the loop rule
-abbrev pub only_if : Bool → Outcome → Outcome
+abbrev pub only_if : Bool → Result State Reason → Result State Reason
 only_if done x = cond done x (refused bad_loop)
 
 -- in section s, by the role of the record in that section
-abbrev pub at_phase : Stage → ℕ → Phase → Role → Bool → Rec → Outcome
+abbrev pub at_phase : Stage → ℕ → Phase → Role → Bool → Rec → Result State Reason
 at_phase g s await_title role fit r = if_fit (is_role role title) fit (next (inside g s (after_title (type_in r)))) (refused misplaced)
 at_phase g s (await_name t) role fit r = if_fit (is_role role name) fit (next (inside g s (header_full t))) (refused misplaced)
 at_phase g s (header_full t) role fit r = if_fit (is_role role closing) fit (next (between (headed t))) (refused misplaced)
@@ -105,7 +106,7 @@ at_phase g s await_part role fit r =
 at_phase g s await_position role fit r = if_fit (is_role role position) fit (next (inside g s await_part)) (refused misplaced)
 
 -- what a record does to a state, names of components aside
-unfoldable pub advance : Rules → State → Rec → Outcome
+unfoldable pub advance : Rules → State → Rec → Result State Reason
 advance v (between g) r =
     let s = section_of v r.kind in
     if_fit (is_role (role_of v r.kind) opening && may_open v g s) (well_formed (under v (file_of g)) r) (next (inside g s (start_of (shape_of v s)))) (refused misplaced)
@@ -121,20 +122,17 @@ abbrev pub type_at : State → FileType
 type_at (between g) = file_of g
 type_at (inside g s p) = file_of g
 
--- may a line stand in this phase of its section, by the number of its role
-abbrev pub stands_by : Phase → ℕ → Bool
-stands_by await_title n = eqb n (role_number title)
-stands_by (await_name t) n = eqb n (role_number name)
-stands_by (header_full t) n = eqb n (role_number closing)
-stands_by await_lead n = eqb n (role_number lead)
-stands_by (in_points l) n = eqb n (role_number point) || eqb n (role_number prop) || eqb n (role_number closing)
-stands_by in_props n = eqb n (role_number prop) || eqb n (role_number closing)
-stands_by in_list n = eqb n (role_number entry) || eqb n (role_number closing)
-stands_by await_part n = eqb n (role_number part) || eqb n (role_number closing)
-stands_by await_position n = eqb n (role_number position)
-
+-- may a line of this role stand in this phase of its section
 abbrev pub stands_in : Phase → Role → Bool
-stands_in p role = stands_by p (role_number role)
+stands_in await_title role = is_role role title
+stands_in (await_name t) role = is_role role name
+stands_in (header_full t) role = is_role role closing
+stands_in await_lead role = is_role role lead
+stands_in (in_points l) role = is_role role point || is_role role prop || is_role role closing
+stands_in in_props role = is_role role prop || is_role role closing
+stands_in in_list role = is_role role entry || is_role role closing
+stands_in await_part role = is_role role part || is_role role closing
+stands_in await_position role = is_role role position
 
 -- may a line of kind k stand in this state
 unfoldable pub may_stand : Rules → State → ℕ → Bool
@@ -142,39 +140,36 @@ may_stand v (between g) k = is_role (role_of v k) opening && may_open v g (secti
 may_stand v (inside g s p) k = eqb (section_of v k) s && stands_in p (role_of v k)
 
 -- on in the section; otherwise its closing line leads out of it
-abbrev pub on_or_out : Stage → ℕ → Bool → Phase → Outcome
-on_or_out g s stays p = next (cond stays (inside g s p) (between (after g s)))
+abbrev pub on_or_out : Stage → ℕ → Bool → Phase → State
+on_or_out g s stays p = cond stays (inside g s p) (between (after g s))
 
 -- what a point, PROP or closing line does among points
-abbrev pub among_points : Stage → ℕ → LoopState → ℕ → Point → Outcome
-among_points g s l n d = cond (eqb n (role_number point)) (after_point g s (loop_after (many_loops s) l d)) (only_if (complete l) (on_or_out g s (eqb n (role_number prop)) in_props))
+abbrev pub among_points : Stage → ℕ → LoopState → Role → Point → Result State Reason
+among_points g s l role d = cond (is_role role point) (after_point g s (loop_after (many_loops s) l d)) (only_if (complete l) (next (on_or_out g s (is_role role prop) in_props)))
 
--- what a line that may stand in a phase does there, by the number of its role, the type in it and the point in it
-abbrev pub moved_by : Stage → ℕ → Phase → ℕ → FileType → Point → Outcome
-moved_by g s await_title n t d = next (inside g s (after_title t))
-moved_by g s (await_name u) n t d = next (inside g s (header_full u))
-moved_by g s (header_full u) n t d = next (between (headed u))
-moved_by g s await_lead n t d = next (inside g s (in_points no_point))
-moved_by g s (in_points l) n t d = among_points g s l n d
-moved_by g s in_props n t d = on_or_out g s (eqb n (role_number prop)) in_props
-moved_by g s in_list n t d = on_or_out g s (eqb n (role_number entry)) in_list
-moved_by g s await_part n t d = on_or_out g s (eqb n (role_number part)) await_position
-moved_by g s await_position n t d = next (inside g s await_part)
+-- what a line that may stand in a phase does there, by its role, the type in it and the point in it
+abbrev pub moved_in : Stage → ℕ → Phase → Role → FileType → Point → Result State Reason
+moved_in g s await_title role t d = next (inside g s (after_title t))
+moved_in g s (await_name u) role t d = next (inside g s (header_full u))
+moved_in g s (header_full u) role t d = next (between (headed u))
+moved_in g s await_lead role t d = next (inside g s (in_points no_point))
+moved_in g s (in_points l) role t d = among_points g s l role d
+moved_in g s in_props role t d = next (on_or_out g s (is_role role prop) in_props)
+moved_in g s in_list role t d = next (on_or_out g s (is_role role entry) in_list)
+moved_in g s await_part role t d = next (on_or_out g s (is_role role part) await_position)
+moved_in g s await_position role t d = next (inside g s await_part)
 
-abbrev pub moved_in : Stage → ℕ → Phase → Role → FileType → Point → Outcome
-moved_in g s p role t d = moved_by g s p (role_number role) t d
-
--- what a well_formed_lem record of kind k that may stand does: the next state, or a broken loop rule
-unfoldable pub moved : Rules → State → ℕ → FileType → Point → Outcome
+-- what a well-formed record of kind k that may stand does: the next state, or a broken loop rule
+unfoldable pub moved : Rules → State → ℕ → FileType → Point → Result State Reason
 moved v (between g) k t d = next (inside g (section_of v k) (start_of (shape_of v (section_of v k))))
 moved v (inside g s p) k t d = moved_in g s p (role_of v k) t d
 
 -- a line of kind k with values that fit: the next state, or a refusal
-unfoldable pub stepped : Rules → State → ℕ → FileType → Point → Outcome
+unfoldable pub stepped : Rules → State → ℕ → FileType → Point → Result State Reason
 stepped v st k t d = cond (may_stand v st k) (moved v st k t d) (refused misplaced)
 
 -- not refused, and a test passes of the next state
-abbrev pub accepted : Outcome → (State → Bool) → Bool
+abbrev pub accepted : Result State Reason → (State → Bool) → Bool
 accepted (next t) f = f t
 accepted (refused e) f = false
 
@@ -201,12 +196,12 @@ abbrev pub noted : Rules → List Named → Rec → List Named
 noted v used r = cond (names_a_component v r.kind) (name_in r ∷ used) used
 
 -- a used name is refused, after every other refusal
-abbrev pub unless : Bool → Outcome → Outcome
+abbrev pub unless : Bool → Result State Reason → Result State Reason
 unless again (next t) = cond again (refused repeated) (next t)
 unless again (refused e) = refused e
 
 -- what a record does after records with these names
-abbrev pub admit : Rules → List Named → State → Rec → Outcome
+abbrev pub admit : Rules → List Named → State → Rec → Result State Reason
 admit v used st r = unless (repeats v used r) (advance v st r)
 
 -- how far a list carries a state: through; or up to a record, counted from 0, that is refused
@@ -220,7 +215,7 @@ later (through t) = through t
 later (stopped k e) = stopped (suc k) e
 
 -- what a record does, and then the rest
-abbrev pub onward : Outcome → (State → Ran) → Ran
+abbrev pub onward : Result State Reason → (State → Ran) → Ran
 onward (next t) f = later (f t)
 onward (refused e) f = stopped 0 e
 

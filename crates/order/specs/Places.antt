@@ -1,6 +1,5 @@
 -- The kind of a line by its place: a data line by the phase of its section, a keyword line by its keyword.
-use Rattle.std.specs.Prelude.{ℕ, Bool, true, false, cond, ◌&&◌}
-use Rattle.std.proofs.Math.Option.{Option, none, some}
+use Rattle.std.specs.Prelude.{ℕ, Bool, true, false, cond, ◌&&◌, Option, Some as some, None as none}
 use Rattle.law.specs.Sections.{Shape, header, outline, component, keepout, listing, placements}
 use Rattle.law.specs.Kinds.{kind_at}
 use Rattle.law.specs.declared.Rules.{Rules}
@@ -68,8 +67,3 @@ unfoldable pub key_kind : Rules → Keyword → ℕ
 key_kind v (Opening s) = kind_at v s 0
 key_kind v (Closing s) = kind_at v s 9
 key_kind v Unknown = 0
-
--- the number of a line in its section, 0 where there is none
-abbrev pub line_number : Option ℕ → ℕ
-line_number none = 0
-line_number (some n) = n

@@ -44,12 +44,5 @@ pub enum Reason {
     Repeated,
 }
 
-// What a record does: the next state, or a refusal.
-#[derive(Clone, Copy)]
-pub enum Outcome {
-    Next(State),
-    Refused(Reason),
-}
-
 // The largest file, in bytes.
 pub const LIMIT: usize = 16_777_216;

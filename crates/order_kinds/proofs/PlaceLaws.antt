@@ -1,7 +1,7 @@
 -- Laws of the kind that a data line has by its place.
 use Prim.Native.Nat.{ℕ, ◌+◌, ◌*◌, ◌≤◌}
-use mathlib.Core.Path.{◌≡◌, refl, sym, ap, ◌∙◌}
-use mathlib.Core.Option.{Option, none, some}
+use mathlib.Core.Path.{◌≡◌, refl, sym, ap, subst, ◌∙◌}
+use Rattle.std.specs.Prelude.{Option, Some as some, None as none}
 use mathlib.Core.Bool.{Bool, true, false, cond, ◌&&◌}
 use native.Mathlib.Omega.{arith}
 use mir.Syntax.{w64}
@@ -17,7 +17,7 @@ use Rattle.form.specs.declared.Keyword.TheVariants.{Opening, Closing, Unknown}
 use Rattle.law.specs.declared.Rules.{Rules}
 use Rattle.law.specs.declared.Rules.TheVariants.{Idf3}
 use Rattle.law.specs.Records.{shape_of}
-use Rattle.order.specs.Places.{line_number, point_line, has_props, line_at, section_in, kind_by, data_kind, key_section, key_kind}
+use Rattle.order.specs.Places.{point_line, has_props, line_at, section_in, kind_by, data_kind, key_section, key_kind}
 use Rattle.order.specs.declared.Stage.{Stage}
 use Rattle.order_loops.specs.declared.LoopState.{LoopState}
 use Rattle.order.specs.declared.Phase.{Phase}
@@ -70,27 +70,19 @@ point_second v s h = sym (ap (λ (b : Bool). points_at b) (ne_eqb s 8 h)) ∙ po
 
 -- which line
 module _ (f : Shape) (p : Phase) (marked x : Bool) where
-  pub prop_line : (l : LoopState) → p ≡ InPoints l → x ≡ has_props f → (marked && x) ≡ true → 3 ≡ line_number (line_at f p marked)
+  pub prop_line : (l : LoopState) → p ≡ InPoints l → x ≡ has_props f → (marked && x) ≡ true → some 3 ≡ line_at f p marked
   prop_line l h e i = let z : (marked && has_props f) ≡ true = ap (λ (b : Bool). marked && b) (sym e) ∙ i in rw (h, z)
 
-  pub a_point : (l : LoopState) (r : ℕ) → p ≡ InPoints l → x ≡ has_props f → (marked && x) ≡ false → r ≡ point_line f → r ≡ line_number (line_at f p marked)
+  pub a_point : (l : LoopState) (r : ℕ) → p ≡ InPoints l → x ≡ has_props f → (marked && x) ≡ false → r ≡ point_line f → some r ≡ line_at f p marked
   a_point l r h e i j = let z : (marked && has_props f) ≡ false = ap (λ (b : Bool). marked && b) (sym e) ∙ i in rw (h, z, j)
 
-  pub next_prop : p ≡ InProps → x ≡ has_props f → (marked && x) ≡ true → 3 ≡ line_number (line_at f p marked)
+  pub next_prop : p ≡ InProps → x ≡ has_props f → (marked && x) ≡ true → some 3 ≡ line_at f p marked
   next_prop h e i = let z : (marked && has_props f) ≡ true = ap (λ (b : Bool). marked && b) (sym e) ∙ i in rw (h, z)
 
-  pub no_line : p ≡ InProps → x ≡ has_props f → (marked && x) ≡ false → 0 ≡ line_number (line_at f p marked)
+  pub no_line : p ≡ InProps → x ≡ has_props f → (marked && x) ≡ false → none ≡ line_at f p marked
   no_line h e i = let z : (marked && has_props f) ≡ false = ap (λ (b : Bool). marked && b) (sym e) ∙ i in rw (h, z)
 
--- lines are numbered from 1 to 3
-point_low : (f : Shape) → point_line f ≡ 0 → ⊥
-point_low header h = omega arith
-point_low outline h = omega arith
-point_low component h = omega arith
-point_low keepout h = omega arith
-point_low listing h = omega arith
-point_low placements h = omega arith
-
+-- lines are numbered up to 3
 point_high : (f : Shape) → point_line f ≤ 3
 point_high header = omega arith
 point_high outline = omega arith
@@ -99,39 +91,32 @@ point_high keepout = omega arith
 point_high listing = omega arith
 point_high placements = omega arith
 
-record Numbered (o : Option ℕ) : Type 0 where
-  low : line_number o ≡ 0 → o ≡ none
-  high : line_number o ≤ 3
+abbrev Low : Option ℕ → Type 0
+Low none = 0 ≤ 3
+Low (some n) = n ≤ 3
 
-some_numbered : (n : ℕ) → (n ≡ 0 → ⊥) → n ≤ 3 → Numbered (some n)
-some_numbered n h l = record { low = λ e. absurd (h e); high = l }
-
-none_numbered : Numbered none
-none_numbered = record { low = λ e. refl; high = omega arith }
-
-numbered : (f : Shape) (p : Phase) (b : Bool) → Numbered (line_at f p b)
-numbered f AwaitTitle b = some_numbered 1 (λ e. omega arith) (omega arith)
-numbered f (AwaitName t) b = some_numbered 2 (λ e. omega arith) (omega arith)
-numbered f (HeaderFull t) b = none_numbered
-numbered f AwaitLead b = some_numbered 1 (λ e. omega arith) (omega arith)
-numbered f (InPoints l) b = go (b && has_props f)
+low_line : (f : Shape) (p : Phase) (b : Bool) → Low (line_at f p b)
+low_line f AwaitTitle b = omega arith
+low_line f (AwaitName t) b = omega arith
+low_line f (HeaderFull t) b = omega arith
+low_line f AwaitLead b = omega arith
+low_line f (InPoints l) b = go (b && has_props f)
   where
-    go : (x : Bool) → Numbered (cond x (some 3) (some (point_line f)))
-    go true = some_numbered 3 (λ e. omega arith) (omega arith)
-    go false = some_numbered (point_line f) (point_low f) (point_high f)
-numbered f InProps b = go (b && has_props f)
+    go : (x : Bool) → Low (cond x (some 3) (some (point_line f)))
+    go true = omega arith
+    go false = point_high f
+low_line f InProps b = go (b && has_props f)
   where
-    go : (x : Bool) → Numbered (cond x (some 3) none)
-    go true = some_numbered 3 (λ e. omega arith) (omega arith)
-    go false = none_numbered
-numbered f InList b = some_numbered 1 (λ e. omega arith) (omega arith)
-numbered f AwaitPart b = some_numbered 1 (λ e. omega arith) (omega arith)
-numbered f AwaitPosition b = some_numbered 2 (λ e. omega arith) (omega arith)
+    go : (x : Bool) → Low (cond x (some 3) none)
+    go true = omega arith
+    go false = omega arith
+low_line f InList b = omega arith
+low_line f AwaitPart b = omega arith
+low_line f AwaitPosition b = omega arith
 
-kind_some : (v : Rules) (s : ℕ) (o : Option ℕ) → (line_number o ≡ 0 → ⊥) → 10 * s + line_number o ≡ kind_by v s o
+kind_some : (v : Rules) (s n : ℕ) → 10 * s + n ≡ kind_at v s n
 unfolding kind_at
-kind_some v s none h = absurd (h refl)
-kind_some Idf3 s (some n) h = refl
+kind_some Idf3 s n = refl
 
 -- the kind
 pub none_between : (v : Rules) (st : State) (g : Stage) (b : Bool) → st ≡ Between g → 0 ≡ data_kind v st b
@@ -145,16 +130,16 @@ module _ (v : Rules) (st : State) (g : Stage) (s : ℕ) (p : Phase) (b : Bool) (
   pub ten_fits : section_in st ≤ 15 → Fits w64 (10 * s)
   ten_fits l = record { fits = omega (arith, small l) }
 
-  pub kind_fits : (n : ℕ) → section_in st ≤ 15 → n ≡ line_number (line_at (shape_of v s) p b) → Fits w64 (10 * s + n)
-  kind_fits n l e = record { fits = omega (arith, small l, e, (numbered (shape_of v s) p b).high) }
+  pub kind_fits : (n : ℕ) → section_in st ≤ 15 → some n ≡ line_at (shape_of v s) p b → Fits w64 (10 * s + n)
+  kind_fits n l e = let z : n ≤ 3 = subst Low (sym e) (low_line (shape_of v s) p b) in record { fits = omega (arith, small l, z) }
 
-  pub none_here : (n : ℕ) → n ≡ line_number (line_at (shape_of v s) p b) → n ≡ 0 → 0 ≡ data_kind v st b
+  pub none_here : none ≡ line_at (shape_of v s) p b → 0 ≡ data_kind v st b
   unfolding data_kind
-  none_here n e i = rw (h, (numbered (shape_of v s) p b).low (sym e ∙ i))
+  none_here e = rw (h, sym e)
 
-  pub kind_here : (n : ℕ) → n ≡ line_number (line_at (shape_of v s) p b) → (n ≡ 0 → ⊥) → 10 * s + n ≡ data_kind v st b
+  pub kind_here : (n : ℕ) → some n ≡ line_at (shape_of v s) p b → 10 * s + n ≡ data_kind v st b
   unfolding data_kind
-  kind_here n e i = rw (h, e) (kind_some v s (line_at (shape_of v s) p b) (λ z. i (e ∙ z)))
+  kind_here n e = rw (h, sym e) (kind_some v s n)
 
 -- keyword lines
 opens_with : (v : Rules) (s : ℕ) → 10 * s ≡ kind_at v s 0
@@ -186,3 +171,10 @@ module _ (v : Rules) (k : Keyword) (s : ℕ) where
 pub unknown_kind : (v : Rules) (k : Keyword) → k ≡ Unknown → 0 ≡ key_kind v k
 unfolding key_kind
 unknown_kind v k h = rw h
+
+-- what each function of the code is proved by
+pub ruleset line_laws = (prop_line, a_point, next_prop, no_line)
+
+pub ruleset kind_laws = (none_between, ten_fits, kind_fits, none_here, kind_here)
+
+pub ruleset key_laws = (opening_fits, opening_kind, closing_fits, closing_whole, closing_kind, unknown_kind)

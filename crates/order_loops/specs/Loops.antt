@@ -1,6 +1,5 @@
 -- Loops one point at a time: how the points of a section so far may go on.
-use Rattle.std.proofs.Math.Option.{Option, none, some}
-use Rattle.std.specs.Prelude.{Bool, true, false, cond, not, ◌&&◌, ◌||◌, ℤ, pos}
+use Rattle.std.specs.Prelude.{Bool, true, false, cond, not, ◌&&◌, ◌||◌, ℤ, pos, Option, Some as some, None as none}
 use Rattle.std.proofs.Math.IntN.{suc_ℤ}
 use Rattle.basics.specs.Integers.{eq_z}
 use Rattle.rows.specs.declared.Point.{Point}

@@ -8,24 +8,27 @@ use law::{FileType, Rules};
 use order::Stage;
 
 // Whether a section may stand between outline and PLACEMENT.
+#[tactic(auto, using(crate::proofs::StateLaws::middle_laws))]
 fn is_middle(v: Rules, s: u64) -> bool
     ensures { result ≡ is_middle v s }
 {
-    (4 <= s) & (s <= 12)
+    matches!(s, 4..=12)
 }
 
 // Whether a section may open after the header.
+#[tactic(auto, unfolding(order::specs::Stages::may_open))]
 fn headed_opens(v: Rules, t: FileType, s: u64) -> bool
     ensures { result ≡ may_open v (Headed t) s }
 {
     match t {
         FileType::Board => s == 2,
         FileType::Panel => s == 3,
-        FileType::Library => (s == 14) | (s == 15),
+        FileType::Library => matches!(s, 14 | 15),
     }
 }
 
 // Whether a section may open after the outline; holes and notes stand at most once.
+#[tactic(auto, using(crate::proofs::StateLaws::opens_middle))]
 fn middle_opens(v: Rules, t: FileType, holes: bool, notes: bool, s: u64) -> bool
     ensures { result ≡ may_open v (Middle t holes notes) s }
 {
@@ -33,6 +36,7 @@ fn middle_opens(v: Rules, t: FileType, holes: bool, notes: bool, s: u64) -> bool
 }
 
 // Whether a section may open.
+#[tactic(auto, unfolding(order::specs::Stages::may_open))]
 pub fn may_open(v: Rules, g: Stage, s: u64) -> bool
     ensures { result ≡ may_open v g s }
 {
@@ -49,9 +53,8 @@ pub(crate) fn may_end(g: Stage) -> bool
     ensures { result ≡ may_end g }
 {
     match g {
-        Stage::Nothing => false,
+        Stage::Nothing | Stage::Middle(..) => false,
         Stage::Headed(t) => rows::is_library(t),
-        Stage::Middle(..) => false,
         Stage::Finished(..) => true,
     }
 }
@@ -61,13 +64,13 @@ fn after_headed(t: FileType) -> Stage
     ensures { result ≡ after_headed t }
 {
     match t {
-        FileType::Board => Stage::Middle(t, false, false),
-        FileType::Panel => Stage::Middle(t, false, false),
+        FileType::Board | FileType::Panel => Stage::Middle(t, false, false),
         FileType::Library => Stage::Headed(t),
     }
 }
 
 // The stage after a section.
+#[tactic(auto, using(crate::proofs::StateLaws::after_laws), unfolding(order::specs::Stages::after))]
 pub(crate) fn after(g: Stage, s: u64) -> Stage
     ensures { result ≡ after g s }
 {
@@ -91,8 +94,6 @@ pub(crate) fn file_of(g: Stage) -> FileType
 {
     match g {
         Stage::Nothing => FileType::Library,
-        Stage::Headed(t) => t,
-        Stage::Middle(t, _, _) => t,
-        Stage::Finished(t) => t,
+        Stage::Headed(t) | Stage::Middle(t, _, _) | Stage::Finished(t) => t,
     }
 }

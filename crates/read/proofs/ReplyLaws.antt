@@ -1,5 +1,5 @@
 -- Laws of the replies, as the code leaves them.
-use Prim.Native.Nat.{ℕ, ◌+◌, ◌-◌, ◌^◌, ◌≤◌, ◌<◌}
+use Prim.Native.Nat.{ℕ, ◌+◌, ◌^◌, ◌≤◌, ◌<◌}
 use mathlib.Core.Path.{◌≡◌, refl, sym, ap, ◌∙◌}
 use mathlib.Core.List.{List}
 use mathlib.Core.Bool.{Bool, true, false, true≢false, false≢true}
@@ -13,14 +13,18 @@ use Rattle.law.specs.declared.FileType.TheVariants.{Library}
 use Rattle.order.specs.Automaton.{accepting, type_at}
 use Rattle.walk.specs.declared.Found.{Found}
 use Rattle.walk.specs.declared.Found.TheVariants.{Row, Nothing, Refused}
+use Rattle.law.specs.Refusals.{number_of}
+use Rattle.law.specs.declared.refusals.Refusal.{Refusal}
 use Rattle.law.specs.declared.Reply.{Reply}
 use Rattle.walk.specs.declared.Walk.{Walk}
 use Rattle.walk.specs.declared.Turn.{Turn}
+use Rattle.walk.specs.declared.steps.Turns.{Turns}
+use Rattle.walk.specs.Turns.{Took, Over}
 use Rattle.law.specs.Answers.{limit, reply}
-use Rattle.walk.specs.Walks.{begun, turn_of, stops_by, Steady, Trace, trace_by, trace_at}
+use Rattle.walk.specs.Walks.{begun, stops_by, Trace, done, trace_by, trace_at}
 use Rattle.read.specs.Replies.{counted_by, ended_by, surveyed, survey, check_reply, type_from, type_of, examined_within, examined}
 use Rattle.read.specs.declared.Checked.{Checked}
-use Rattle.walk.proofs.WalkLaws.{Going, going_start, going_trace, going_past, going_less, going_more, going_end}
+use Rattle.walk.proofs.TurnsLaws.{Left, left_small, over_trace, took_left, took_trace, took_past}
 
 module _ (r : Reply) (l : ℕ) (f : Found) where
   pub counted_row : f ≡ Row → reply 0 0 (r.count + 1) ≡ counted_by r l f
@@ -29,7 +33,7 @@ module _ (r : Reply) (l : ℕ) (f : Found) where
   pub counted_nothing : f ≡ Nothing → r ≡ counted_by r l f
   counted_nothing h = rw h
 
-  pub counted_refused : (n : ℕ) (q : Reply) → f ≡ Refused n → q ≡ reply n l 0 → q ≡ counted_by r l f
+  pub counted_refused : (n : Refusal) (q : Reply) → f ≡ Refused n → q ≡ reply (number_of n) l 0 → q ≡ counted_by r l f
   counted_refused n q h e = rw h e
 
 module _ (r : Reply) (w : Walk) (x : Bool) (e : x ≡ accepting w.state) where
@@ -73,60 +77,65 @@ module _ (r : Reply) (l : ℕ) (row : List ℤ) (t : Trace) where
   counted_few (Refused n) h = absurd (true≢false h)
 
 -- what is left of a file gives the reply of the whole, and its type
-pub record Surveying (file : List ℕ) (w : Walk) (at : ℕ) (r : Reply) : Type 0 where
-  pub going : Going file w at
-  pub few : r.count ≤ at
-  pub left : surveyed r (trace_at file w) ≡ survey file
-  pub typed : type_from (trace_at file w) ≡ type_of file
+pub record Surveying (file : List ℕ) (v : Turns) (end : Walk) (r : Reply) : Type 0 where
+  pub of : Left file v
+  pub here : end ≡ v.walk
+  pub few : r.count ≤ v.walk.at
+  pub left : surveyed r (trace_at file v.walk) ≡ survey file
+  pub typed : type_from (trace_at file v.walk) ≡ type_of file
 
-pub survey_start : (file : List ℕ) (w : Walk) (r : Reply) → length file ≤ limit → w ≡ begun → r ≡ reply 0 0 0 → Surveying file w 0 r
-survey_start file w r h e i = record { going = going_start file w h e; few = rw i (omega arith); left = rw (e, i); typed = rw e }
+pub survey_start : (file : List ℕ) (v : Turns) (end : Walk) (r : Reply) → v.file.now ≡ file → v.walk ≡ begun → end ≡ begun → r ≡ reply 0 0 0 → Surveying file v end r
+survey_start file v end r f e h i = record {
+  of = record { of = f };
+  here = h ∙ sym e;
+  few = let z : r.count ≡ 0 = ap (λ (y : Reply). y.count) i in omega arith;
+  left = rw (e, i);
+  typed = rw e;
+}
 
-module _ (file : List ℕ) (w : Walk) (at : ℕ) (r : Reply) (s : Surveying file w at r) where
-  pub survey_steady : Steady file w
-  survey_steady = s.going.steady
-
+module _ (file : List ℕ) (v : Turns) (end : Walk) (r : Reply) (s : Surveying file v end r) where
   pub survey_count : r.count < 2 ^ 62
-  survey_count = let a = s.few in let b = s.going.here in let c = s.going.steady.within in let d = s.going.steady.small in omega arith
+  survey_count = omega (arith, s.few, left_small file v s.of)
 
-  module _ (h : at < length file) (t : Turn) (e : t ≡ turn_of file w) (x : Bool) (i : x ≡ stops_by t.found) (q : Reply) (j : q ≡ counted_by r w.line t.found) where
+  module _ (t : Turn) (u : Turns) (k : Took v t u) (x : Bool) (i : x ≡ stops_by t.found) (q : Reply) (j : q ≡ counted_by r t.line t.found) where
     pub survey_stop : x ≡ true → q ≡ survey file
-    survey_stop k =
-        j ∙ sym (counted_stop r w.line t.row (trace_at file t.walk) t.found (sym i ∙ k))
-        ∙ sym (ap (surveyed r) (going_trace file w at s.going h t e))
+    survey_stop h =
+        j ∙ sym (counted_stop r t.line t.row (trace_at file u.walk) t.found (sym i ∙ h))
+        ∙ sym (ap (surveyed r) (took_trace file v s.of t u k))
         ∙ s.left
 
     pub survey_untyped : x ≡ true → Library ≡ type_of file
-    survey_untyped k =
-        typed_stop r w.line t.row (trace_at file t.walk) t.found (sym i ∙ k) ∙ sym (ap type_from (going_trace file w at s.going h t e)) ∙ s.typed
+    survey_untyped h = typed_stop r t.line t.row (trace_at file u.walk) t.found (sym i ∙ h) ∙ sym (ap type_from (took_trace file v s.of t u k)) ∙ s.typed
 
-    pub survey_more : x ≡ false → Surveying file t.walk t.walk.at q
-    survey_more k =
-        let f : stops_by t.found ≡ false = sym i ∙ k in
-        let a = going_past file w at s.going h t e in
+    pub survey_more : x ≡ false → Surveying file u t.walk q
+    survey_more h =
+        let f : stops_by t.found ≡ false = sym i ∙ h in
+        let a = took_past file v s.of t u k in
         let b = s.few in
-        let c : q.count ≤ r.count + 1 = rw j (counted_few r w.line t.row (trace_at file t.walk) t.found f) in
+        let c : q.count ≤ r.count + 1 = rw j (counted_few r t.line t.row (trace_at file u.walk) t.found f) in
         record {
-          going = going_more file w at s.going h t e;
+          of = took_left file v s.of t u k;
+          here = sym k.walk;
           few = omega arith;
           left =
-              ap (λ (y : Reply). surveyed y (trace_at file t.walk)) j
-              ∙ sym (counted_on r w.line t.row (trace_at file t.walk) t.found f)
-              ∙ sym (ap (surveyed r) (going_trace file w at s.going h t e))
+              ap (λ (y : Reply). surveyed y (trace_at file u.walk)) j
+              ∙ sym (counted_on r t.line t.row (trace_at file u.walk) t.found f)
+              ∙ sym (ap (surveyed r) (took_trace file v s.of t u k))
               ∙ s.left;
-          typed = sym (typed_on r w.line t.row (trace_at file t.walk) t.found f) ∙ sym (ap type_from (going_trace file w at s.going h t e)) ∙ s.typed;
+          typed = sym (typed_on r t.line t.row (trace_at file u.walk) t.found f) ∙ sym (ap type_from (took_trace file v s.of t u k)) ∙ s.typed;
         }
 
-  pub survey_less : (t : Turn) → at < length file → t ≡ turn_of file w → length file - t.walk.at < length file - at
-  survey_less t h e = going_less file w at s.going h t e
+  module _ (u : Turns) (o : Over v u) where
+    over_here : trace_at file v.walk ≡ done end
+    over_here = over_trace file v s.of u o ∙ ap done (o.walk ∙ sym s.here)
 
-  pub survey_over : (q : Reply) → length file ≤ at → q ≡ ended_by r w → q ≡ survey file
-  unfolding surveyed
-  survey_over q h e = e ∙ sym (ap (surveyed r) (going_end file w at s.going h)) ∙ s.left
+    pub survey_over : (q : Reply) → q ≡ ended_by r end → q ≡ survey file
+    unfolding surveyed
+    survey_over q e = e ∙ sym (ap (surveyed r) over_here) ∙ s.left
 
-  pub survey_typed : (t : FileType) → length file ≤ at → t ≡ type_at w.state → t ≡ type_of file
-  unfolding type_from
-  survey_typed t h e = e ∙ sym (ap type_from (going_end file w at s.going h)) ∙ s.typed
+    pub survey_typed : (t : FileType) → t ≡ type_at end.state → t ≡ type_of file
+    unfolding type_from
+    survey_typed t e = e ∙ sym (ap type_from over_here) ∙ s.typed
 
 -- a whole file
 module _ (file : List ℕ) where

@@ -1,67 +1,46 @@
 -- Laws of rows in a lent slice, as the code leaves them.
-use Prim.Native.Nat.{ℕ, ◌+◌, ◌-◌, ◌^◌, ◌≤◌, ◌<◌}
+use Prim.Native.Nat.{ℕ, ◌+◌, ◌^◌, ◌≤◌, ◌<◌}
 use mathlib.Core.Path.{◌≡◌, refl, sym, ap, ap₂, ◌∙◌}
 use mathlib.Core.List.{List, [], ◌∷◌, ◌++◌, append_assoc}
 use mathlib.Core.Bool.{Bool, true, false, cond, true≢false, false≢true}
-use native.Mathlib.Numerals.{add-one}
 use native.Mathlib.Omega.{arith}
 use mir.Syntax.{w64}
-use mir.Val.{Fits, SFits, to_z}
-use mir.ValLaws.{to_z-of_z, to_z_pos}
+use mir.Val.{Fits}
 use borrow.Author.Tests.{eq-eqb, ne_eqb, lt-ltb, le-ltb}
 use lib.IntN.{ℤ, pos}
-use lib.ListN.{length, take, drop, set, get_or, length-append, length-set, take-append-drop, get_or-append}
-use lib.Seq.{paste, paste-zero, paste-suc, length-paste, take-paste, drop-paste, take_all, drop-drop, get_or_at}
-use Rattle.basics.proofs.Integers.{back}
+use lib.ListN.{length, take, drop, set, length-append, take-append-drop}
+use borrow.Rule.Slice.PartMut.{put_mid}
+use Rattle.std.proofs.lemmas.Slice.{put_mid-paste}
+use Rattle.std.proofs.lemmas.List.Edits.{paste-paste}
+use lib.Seq.{paste, paste-zero, paste-suc, length-paste, take-paste, drop-paste, take_all, drop-drop}
 use Rattle.read.proofs.ReplyLaws.{accepted_small}
 use Rattle.law.specs.Rows.{width, stride, capacity, with_line}
 use Rattle.walk.specs.declared.Found.{Found}
 use Rattle.walk.specs.declared.Found.TheVariants.{Row, Nothing, Refused}
 use Rattle.law.specs.declared.Reply.{Reply}
-use Rattle.walk.specs.declared.Walk.{Walk}
 use Rattle.walk.specs.declared.Turn.{Turn}
+use Rattle.walk.specs.declared.steps.Turns.{Turns}
+use Rattle.walk.specs.Turns.{Took, Over}
 use Rattle.law.specs.Answers.{limit, reply, over}
-use Rattle.walk.specs.Walks.{begun, turn_of, is_row, stops_by, Steady, Trace, trace_by, trace_at}
+use Rattle.walk.specs.Walks.{begun, is_row, stops_by, Trace, trace_by, trace_at}
 use Rattle.read.specs.Replies.{check_reply, rows_in, rows_of, placed_at, place_behind, RowRoom, read_reply, read_rows}
-use Rattle.walk.proofs.WalkLaws.{Going, going_start, going_trace, going_less, going_more, going_end}
+use Rattle.walk.proofs.TurnsLaws.{Left, over_trace, took_is, took_left, took_small, took_trace}
 use Rattle.read.proofs.RowWidths.{turn_wide, lined_wide, check_counts}
 
--- a row put number by number, its line last
-pub record Putting (old : List ℤ) (at : ℕ) (x : List ℤ) (line : ℕ) (rows : List ℤ) (i : ℕ) : Type 0 where
-  pub within : i ≤ width
-  pub is : rows ≡ paste old at (with_line x (pos line)) i
-  pub long : length rows ≡ length old
+-- one number put, as a list of one
+put_one : (d : List ℤ) (p : ℕ) (z : ℤ) → p < length d → set d p z ≡ paste d p (z ∷ []) 1
+put_one d p z h =
+    let q : p + 0 ≡ p = omega arith in
+    ap₂ (λ (a : List ℤ) (b : ℕ). set a b z) (paste-zero d p (z ∷ [])) (sym q) ∙ paste-suc d p (z ∷ []) 0 z (omega arith) (omega arith)
 
-pub put_start : (old x : List ℤ) (at line : ℕ) → Putting old at x line old 0
-put_start old x at line = record { within = omega arith; is = paste-zero old at (with_line x (pos line)); long = refl }
-
-module _ (old x rows : List ℤ) (at line i : ℕ) (p : Putting old at x line rows i) where
-  pub put_length : length rows ≡ length old
-  put_length = p.long
-
-  module _ (w : length x ≡ width) (r : at + stride ≤ length old) where
-    -- one number more
-    put_next : (z : ℤ) → i < stride → z ≡ get_or (with_line x (pos line)) i (pos 0) → set rows (at + i) z ≡ paste old at (with_line x (pos line)) (i + 1)
-    put_next z h e =
-        let d : at + i < length old = omega arith in
-        let l : i < length (with_line x (pos line)) = omega (arith, lined_wide x (pos line) w) in
-        rw (e, p.is) (paste-suc old at (with_line x (pos line)) i (pos 0) d l) ∙ ap (paste old at (with_line x (pos line))) (sym (add-one i))
-
-    pub put_more : i < width → SFits w64 (get_or x i (pos 0)) → Putting old at x line (set rows (at + i) (back (get_or x i (pos 0)))) (i + 1)
-    put_more h f =
-        let l : i < length x = omega (arith, w) in
-        let b : back (get_or x i (pos 0)) ≡ get_or (with_line x (pos line)) i (pos 0) = to_z-of_z w64 (get_or x i (pos 0)) f ∙ sym (get_or-append x (pos line ∷ []) (pos 0) i l) in
-        record {
-          within = omega arith;
-          is = put_next (back (get_or x i (pos 0))) (omega arith) b;
-          long = length-set rows (at + i) (back (get_or x i (pos 0))) ∙ p.long;
-        }
-
-    pub put_last : width ≤ i → line < 2 ^ 63 → set rows (at + width) (to_z w64 line) ≡ paste old at (with_line x (pos line)) stride
-    put_last h s =
-        let k : i ≡ width = omega (arith, p.within) in
-        let g = put_next (to_z w64 line) (omega (arith, k)) (to_z_pos w64 line (omega arith) ∙ sym (get_or_at x (pos line) [] (pos 0) i (w ∙ sym k))) in
-        rw k at g
+-- the numbers of a row put from a place on, and its line behind them
+pub put_is : (old x ys : List ℤ) (at k line : ℕ) (z : ℤ) → at + stride ≤ length old → length x ≡ width → ys ≡ x → k ≡ width → z ≡ pos line
+    → set (put_mid at k old ys) (at + width) z ≡ paste old at (with_line x (pos line)) stride
+put_is old x ys at k line z r w e i j =
+    let m : put_mid at k old ys ≡ paste old at x width = put_mid-paste at k old ys x width e (sym i) (sym w) in
+    let l : at ≤ length old = omega arith in
+    let a = put_one (paste old at x width) (at + width) (pos line) (omega (arith, length-paste old at x width (omega arith) (omega arith))) in
+    rw (m, j) (a ∙ paste-paste old at x (pos line ∷ []) width 1 (sym w) refl l)
 
 -- one row in the slice, if the line has one
 module _ (at : ℕ) (t : Turn) (x : Bool) (e : x ≡ is_row t.found) where
@@ -105,14 +84,14 @@ over_more n k x rest rows hx hn =
     let g : take n rows ++ over (x ++ rest) (drop n rows) ≡ (take n rows ++ x) ++ over rest (drop (n + k) rows) = simp (drop-drop, append_assoc, e) in
     g ∙ ap₂ (λ (a b : List ℤ). a ++ over rest b) (sym (take-paste rows n x k hd hs ∙ ap (λ (y : List ℤ). take n rows ++ y) (take_all k x hl))) (sym (drop-paste rows n x k hd hs))
 
-pub record Placing (file : List ℕ) (old rows : List ℤ) (w : Walk) (at n : ℕ) : Type 0 where
-  pub going : Going file w at
+pub record Placing (file : List ℕ) (old rows : List ℤ) (v : Turns) (n : ℕ) : Type 0 where
+  pub of : Left file v
   pub long : length rows ≡ length old
-  pub fits : n + length (rows_in (trace_at file w)) ≤ length rows
-  pub same : take n rows ++ over (rows_in (trace_at file w)) (drop n rows) ≡ over (rows_of file) old
+  pub fits : n + length (rows_in (trace_at file v.walk)) ≤ length rows
+  pub same : take n rows ++ over (rows_in (trace_at file v.walk)) (drop n rows) ≡ over (rows_of file) old
 
-pub place_start : (file : List ℕ) (old : List ℤ) (w : Walk) → length file ≤ limit → length (rows_of file) ≤ length old → w ≡ begun → Placing file old old w 0 0
-place_start file old w h k e = record { going = going_start file w h e; long = refl; fits = rw e (omega arith); same = rw e }
+pub place_start : (file : List ℕ) (old : List ℤ) (v : Turns) → v.file.now ≡ file → v.walk ≡ begun → length (rows_of file) ≤ length old → Placing file old old v 0
+place_start file old v f e k = record { of = record { of = f }; long = refl; fits = rw e (omega arith); same = rw e }
 
 -- the rows of a line and of those behind it
 module _ (l : ℕ) (r : List ℤ) (x : Trace) where
@@ -134,68 +113,62 @@ module _ (l : ℕ) (r : List ℤ) (x : Trace) where
   rows_none Nothing g h = refl
   rows_none (Refused n) g h = absurd (true≢false g)
 
-module _ (file : List ℕ) (old rows : List ℤ) (w : Walk) (at n : ℕ) (s : Placing file old rows w at n) where
-  pub place_steady : Steady file w
-  place_steady = s.going.steady
-
-  all_placed : rows_in (trace_at file w) ≡ [] → rows ≡ over (rows_of file) old
+module _ (file : List ℕ) (old rows : List ℤ) (v : Turns) (n : ℕ) (s : Placing file old rows v n) where
+  all_placed : rows_in (trace_at file v.walk) ≡ [] → rows ≡ over (rows_of file) old
   all_placed e = sym (over_none n rows) ∙ ap (λ (x : List ℤ). take n rows ++ over x (drop n rows)) (sym e) ∙ s.same
 
-  pub place_over : length file ≤ at → rows ≡ over (rows_of file) old
+  pub place_over : (u : Turns) → Over v u → rows ≡ over (rows_of file) old
   unfolding rows_in
-  place_over h = all_placed (ap rows_in (going_end file w at s.going h))
+  place_over u o = all_placed (ap rows_in (over_trace file v s.of u o))
 
-  module _ (h : at < length file) (t : Turn) (e : t ≡ turn_of file w) where
-    pub place_less : length file - t.walk.at < length file - at
-    place_less = going_less file w at s.going h t e
-
-    left : rows_in (trace_at file w) ≡ rows_in (trace_by t.found w.line t.row (trace_at file t.walk))
-    left = ap rows_in (going_trace file w at s.going h t e)
+  module _ (t : Turn) (u : Turns) (k : Took v t u) where
+    left : rows_in (trace_at file v.walk) ≡ rows_in (trace_by t.found t.line t.row (trace_at file u.walk))
+    left = ap rows_in (took_trace file v s.of t u k)
 
     abbrev its : List ℤ
-    its = with_line t.row (pos w.line)
+    its = with_line t.row (pos t.line)
 
     wide : length its ≡ stride
-    wide = lined_wide t.row (pos w.line) (rw e (turn_wide file w))
+    wide = lined_wide t.row (pos t.line) (rw (took_is file v s.of t u k) (turn_wide file v.walk))
 
-    row_left : is_row t.found ≡ true → rows_in (trace_at file w) ≡ its ++ rows_in (trace_at file t.walk)
-    row_left i = left ∙ rows_row w.line t.row (trace_at file t.walk) t.found i
+    row_left : is_row t.found ≡ true → rows_in (trace_at file v.walk) ≡ its ++ rows_in (trace_at file u.walk)
+    row_left i = left ∙ rows_row t.line t.row (trace_at file u.walk) t.found i
 
     row_room : is_row t.found ≡ true → n + stride ≤ length rows
-    row_room i = let f = s.fits in omega (arith, ap length (row_left i), length-append its (rows_in (trace_at file t.walk)), wide)
+    row_room i = let f = s.fits in omega (arith, ap length (row_left i), length-append its (rows_in (trace_at file u.walk)), wide)
 
-    pub turn_room : RowRoom rows n w.line t
-    turn_room = let g = s.going.steady in record { small = omega (arith, g.small, g.within, g.lines); fits = row_room }
+    pub turn_room : RowRoom rows n t.line t
+    turn_room = record { small = omega (arith, took_small file v s.of t u k); fits = row_room }
 
     module _ (y : Bool) (i : y ≡ stops_by t.found) where
       pub place_stop : y ≡ true → rows ≡ over (rows_of file) old
-      place_stop j = all_placed (left ∙ rows_stop w.line t.row (trace_at file t.walk) t.found (sym i ∙ j))
+      place_stop j = all_placed (left ∙ rows_stop t.line t.row (trace_at file u.walk) t.found (sym i ∙ j))
 
-      with_row : is_row t.found ≡ true → Placing file old (paste rows n its stride) t.walk t.walk.at (n + stride)
-      with_row k =
+      with_row : is_row t.found ≡ true → Placing file old (paste rows n its stride) u (n + stride)
+      with_row h =
           let m : stride ≤ length its = omega (arith, wide) in
-          let p : length (paste rows n its stride) ≡ length rows = length-paste rows n its stride (row_room k) m in
+          let p : length (paste rows n its stride) ≡ length rows = length-paste rows n its stride (row_room h) m in
           record {
-            going = going_more file w at s.going h t e;
+            of = took_left file v s.of t u k;
             long = p ∙ s.long;
-            fits = omega (arith, p, s.fits, ap length (row_left k), length-append its (rows_in (trace_at file t.walk)), wide);
-            same = sym (over_more n stride its (rows_in (trace_at file t.walk)) rows wide (row_room k))
-                ∙ ap (λ (x : List ℤ). take n rows ++ over x (drop n rows)) (sym (row_left k))
+            fits = omega (arith, p, s.fits, ap length (row_left h), length-append its (rows_in (trace_at file u.walk)), wide);
+            same = sym (over_more n stride its (rows_in (trace_at file u.walk)) rows wide (row_room h))
+                ∙ ap (λ (x : List ℤ). take n rows ++ over x (drop n rows)) (sym (row_left h))
                 ∙ s.same;
           }
 
-      with_none : y ≡ false → is_row t.found ≡ false → Placing file old rows t.walk t.walk.at n
-      with_none j k =
-          let q : rows_in (trace_at file w) ≡ rows_in (trace_at file t.walk) = left ∙ rows_none w.line t.row (trace_at file t.walk) t.found (sym i ∙ j) k in
-          record { going = going_more file w at s.going h t e; long = s.long; fits = rw q at s.fits; same = rw q at s.same }
+      with_none : y ≡ false → is_row t.found ≡ false → Placing file old rows u n
+      with_none j h =
+          let q : rows_in (trace_at file v.walk) ≡ rows_in (trace_at file u.walk) = left ∙ rows_none t.line t.row (trace_at file u.walk) t.found (sym i ∙ j) h in
+          record { of = took_left file v s.of t u k; long = s.long; fits = rw q at s.fits; same = rw q at s.same }
 
-      pub place_more : (m : ℕ) (next : List ℤ) → y ≡ false → m ≡ place_behind n t → next ≡ placed_at rows n w.line t → Placing file old next t.walk t.walk.at m
+      pub place_more : (m : ℕ) (next : List ℤ) → y ≡ false → m ≡ place_behind n t → next ≡ placed_at rows n t.line t → Placing file old next u m
       unfolding place_behind placed_at
       place_more m next j a b = rw (a, b) (go (is_row t.found) refl)
         where
-          go : (x : Bool) → is_row t.found ≡ x → Placing file old (cond x (paste rows n its stride) rows) t.walk t.walk.at (cond x (n + stride) n)
-          go true k = with_row k
-          go false k = with_none j k
+          go : (x : Bool) → is_row t.found ≡ x → Placing file old (cond x (paste rows n its stride) rows) u (cond x (n + stride) n)
+          go true h = with_row h
+          go false h = with_none j h
 
 -- reading: the check, then the room, then the rows
 module _ (file : List ℕ) (rows : List ℤ) (c : Reply) (e : c ≡ check_reply file) where

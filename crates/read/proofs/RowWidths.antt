@@ -4,35 +4,36 @@ use mathlib.Core.Path.{◌≡◌, refl, ◌∙◌}
 use mathlib.Core.List.{List, [], ◌∷◌}
 use mathlib.Core.Bool.{Bool, true, false, cond}
 use native.Mathlib.Omega.{arith}
-use borrow.Author.Tests.{eqb-false}
+use Rattle.std.specs.Prelude.{Result, Ok, Err, Ok as Next, Err as Stops}
 use lib.Dec.{eqb, ltb}
 use lib.IntN.{ℤ, pos}
 use lib.ListN.{length, set, length-append, length-set}
 use Rattle.rows.specs.Columns.{point_in, type_in_row}
 use Rattle.law.specs.Fits.{under}
 use Rattle.law.specs.Layouts.{types_of}
+use Rattle.law.specs.Refusals.{number_of}
+use Rattle.law.specs.declared.refusals.Refusal.{Refusal}
+use Rattle.law.specs.declared.refusals.Refusal.TheVariants.{TooLarge, FewRows, ForbiddenByte, BrokenQuoting, Misplaced, FieldCount, NoNumber, TooFine, WrongWord, BeyondLimit, LoopRule, NameAgain, TooEarly, ShortText, NoList, NoEntry, WrongKind}
 use Rattle.law.specs.declared.Context.{Context}
 use Rattle.law.specs.declared.Rules.{Rules}
 use Rattle.law.specs.declared.Rules.TheVariants.{Idf3}
 use Rattle.law.specs.declared.FieldType.{FieldType}
 use Rattle.law.specs.Rows.{width, stride, with_line}
-use Rattle.line_rows.specs.Rows.{put_entry, entry_at, begun as firstly, fill_from, filled}
+use Rattle.line_rows.specs.Rows.{put_entry, put_next, entry_at, onward, begun as firstly, fill_from, filled}
 use Rattle.line_rows.specs.declared.Entry.{Entry}
-use Rattle.line_rows.specs.declared.Entry.TheVariants.{Number, Word, Text, Refused as NoEntry}
+use Rattle.line_rows.specs.declared.Entry.TheVariants.{Number, Word, Text}
 use Rattle.line_rows.specs.declared.Filling.{Filling}
 use Rattle.order.specs.Automaton.{type_at, stepped, accepting}
 use Rattle.order.specs.declared.State.{State}
 use Rattle.order.specs.declared.State.TheVariants.{Between, Inside}
-use Rattle.order.specs.declared.Reason.TheVariants.{Misplaced, Unfit, BadLoop, Repeated}
-use Rattle.order.specs.declared.Outcome.{Outcome}
-use Rattle.order.specs.declared.Outcome.TheVariants.{Next, Refused as Stops}
+use Rattle.order.specs.declared.Reason.{Reason}
 use Rattle.walk.specs.declared.Found.{Found}
 use Rattle.walk.specs.declared.Found.TheVariants.{Row, Nothing, Refused}
 use Rattle.walk.specs.declared.JudgedLine.{JudgedLine}
 use Rattle.law.specs.declared.Reply.{Reply}
 use Rattle.walk.specs.declared.Walk.{Walk}
 use Rattle.walk.specs.declared.Turn.{Turn}
-use Rattle.walk.specs.Judging.{refused_by, free_by, moved_row, filled_by, judged}
+use Rattle.walk.specs.Judging.{free_by, moved_row, filled_by, judged}
 use Rattle.law.specs.Answers.{limit, reply}
 use Rattle.walk.specs.Walks.{begun, turn_of, line_in, Trace, done, trace_by, trace_in, trace_at}
 use Rattle.names.specs.Names.{repeat_of}
@@ -45,22 +46,20 @@ put_long : (b : ℕ) (f : Filling) (e : Entry) → length f.row ≡ width → le
 put_long b f (Number z m) h = length-set f.row _ _ ∙ h
 put_long b f (Word n m) h = length-set f.row _ _ ∙ h
 put_long b f (Text a l m) h = length-set (set f.row f.column (pos (b + a))) (f.column + 1) (pos l) ∙ length-set f.row f.column (pos (b + a)) ∙ h
-put_long b f (NoEntry n) h = h
 
-fill_long : (c : Context) (b : ℕ) (s : List ℕ) (ts : List FieldType) (f : Filling) → length f.row ≡ width → length (fill_from c b s ts f).row ≡ width
+-- a row that was filled is as long
+abbrev Filled : Result Filling Refusal → Type 0
+Filled (Ok f) = length f.row ≡ width
+Filled (Err e) = Unit {0}
+
+fill_long : (c : Context) (b : ℕ) (s : List ℕ) (ts : List FieldType) (f : Filling) → length f.row ≡ width → Filled (fill_from c b s ts f)
 unfolding fill_from
 fill_long c b s [] f h = h
-fill_long c b s (t ∷ ts) f h = go (eqb g.refused 0) (fill_long c b s ts g k)
+fill_long c b s (t ∷ ts) f h = go (entry_at c t f.at s) (fill_long c b s ts)
   where
-    g : Filling
-    g = put_entry b f (entry_at c t f.at s)
-
-    k : length g.row ≡ width
-    k = put_long b f (entry_at c t f.at s) h
-
-    go : (x : Bool) → length (fill_from c b s ts g).row ≡ width → length (cond x (fill_from c b s ts g) g).row ≡ width
-    go true i = i
-    go false i = k
+    go : (x : Result Entry Refusal) → ((g : Filling) → length g.row ≡ width → Filled (fill_from c b s ts g)) → Filled (onward (put_next b f x) (fill_from c b s ts))
+    go (Ok e) ih = ih (put_entry b f e) (put_long b f e h)
+    go (Err e) ih = tt
 
 Wide : JudgedLine → Type 0
 Wide j = length j.row ≡ width
@@ -71,25 +70,23 @@ wide_free (Between g) = refl
 wide_free (Inside g s p) = refl
 
 module _ (v : Rules) (st : State) where
-  wide_moved : (r : List ℤ) (o : Outcome) → length r ≡ width → Wide (moved_row st r o)
+  wide_moved : (r : List ℤ) (o : Result State Reason) → length r ≡ width → Wide (moved_row st r o)
   unfolding Wide
   wide_moved r (Next t) h = h
   wide_moved r (Stops e) h = refl
 
-  wide_filled : (k b : ℕ) (s : List ℕ) (m : ℕ) → Wide (filled_by v st k (filled (under v (type_at st)) k b s m))
-  unfolding Wide filled_by filled
-  wide_filled k b s m = go (eqb f.refused 0)
-    where
-      f : Filling
-      f = fill_from (under v (type_at st)) b s (types_of v k) (firstly k m)
+  wide_read : (k : ℕ) (x : Result Filling Refusal) → Filled x → Wide (filled_by v st k x)
+  unfolding Wide filled_by
+  wide_read k (Ok f) h = wide_moved f.row (stepped v st k (type_in_row f.row) (point_in f.row)) h
+  wide_read k (Err e) h = refl
 
-      go : (x : Bool) → Wide (cond x (moved_row st f.row (stepped v st k (type_in_row f.row) (point_in f.row))) (refused_by st f.refused))
-      go true = wide_moved f.row (stepped v st k (type_in_row f.row) (point_in f.row)) (fill_long (under v (type_at st)) b s (types_of v k) (firstly k m) refl)
-      go false = refl
+  wide_filled : (k b : ℕ) (s : List ℕ) (m : ℕ) → Wide (filled_by v st k (filled (under v (type_at st)) k b s m))
+  unfolding filled
+  wide_filled k b s m = wide_read k _ (fill_long (under v (type_at st)) b s (types_of v k) (firstly k m) refl)
 
   wide_judged : (b : ℕ) (s : List ℕ) → Wide (judged v st b s)
   unfolding Wide
-  wide_judged = every_line v st Wide (λ n h. refl) (wide_free st) wide_filled
+  wide_judged = every_line v st Wide (λ e. refl) (wide_free st) wide_filled
 
 pub turn_wide : (file : List ℕ) (w : Walk) → length (turn_of file w).row ≡ width
 unfolding Wide turn_of line_in
@@ -100,42 +97,24 @@ pub lined_wide : (x : List ℤ) (n : ℤ) → length x ≡ width → length (wit
 lined_wide x n h = omega (arith, length-append x (n ∷ []), h)
 
 -- no refusal has the number 0
-
-Told : JudgedLine → Type 0
-Told j = (n : ℕ) → j.found ≡ Refused n → n ≡ 0 → ⊥
-
-told_refused : (st : State) (n : ℕ) → (n ≡ 0 → ⊥) → Told (refused_by st n)
-unfolding Told
-told_refused st n h m e z = let i : n ≡ m = cc in h (i ∙ z)
-
-told_free : (st : State) → Told (free_by st)
-unfolding Told
-told_free (Between g) m e z = let y : ◌≡◌ {A = ℕ} 0 1 = cc in omega arith
-told_free (Inside g s p) m e z = told_refused (Inside g s p) 5 (λ h. omega arith) m e z
-
-module _ (v : Rules) (st : State) where
-  told_moved : (r : List ℤ) (o : Outcome) → Told (moved_row st r o)
-  unfolding Told
-  told_moved r (Next t) m e z = let y : ◌≡◌ {A = ℕ} 0 1 = cc in omega arith
-  told_moved r (Stops Misplaced) m e z = told_refused st 5 (λ h. omega arith) m e z
-  told_moved r (Stops Unfit) m e z = told_refused st 5 (λ h. omega arith) m e z
-  told_moved r (Stops BadLoop) m e z = told_refused st 11 (λ h. omega arith) m e z
-  told_moved r (Stops Repeated) m e z = told_refused st 12 (λ h. omega arith) m e z
-
-  told_filled : (k : ℕ) (f : Filling) → Told (filled_by v st k f)
-  unfolding filled_by
-  told_filled k f = go (eqb f.refused 0) refl
-    where
-      go : (x : Bool) → eqb f.refused 0 ≡ x → Told (cond x (moved_row st f.row (stepped v st k (type_in_row f.row) (point_in f.row))) (refused_by st f.refused))
-      go true h = told_moved f.row (stepped v st k (type_in_row f.row) (point_in f.row))
-      go false h = told_refused st f.refused (eqb-false f.refused 0 h)
-
-  told_judged : (b : ℕ) (s : List ℕ) → Told (judged v st b s)
-  told_judged = every_line v st Told (told_refused st) (told_free st) (λ k b s m. told_filled k (filled (under v (type_at st)) k b s m))
-
-pub turn_told : (file : List ℕ) (w : Walk) (n : ℕ) → (turn_of file w).found ≡ Refused n → n ≡ 0 → ⊥
-unfolding Told turn_of line_in
-turn_told file w = told_judged Idf3 w.state w.at _
+number_some : (e : Refusal) → number_of e ≡ 0 → ⊥
+number_some TooLarge h = omega arith
+number_some FewRows h = omega arith
+number_some ForbiddenByte h = omega arith
+number_some BrokenQuoting h = omega arith
+number_some Misplaced h = omega arith
+number_some FieldCount h = omega arith
+number_some NoNumber h = omega arith
+number_some TooFine h = omega arith
+number_some WrongWord h = omega arith
+number_some BeyondLimit h = omega arith
+number_some LoopRule h = omega arith
+number_some NameAgain h = omega arith
+number_some TooEarly h = omega arith
+number_some ShortText h = omega arith
+number_some NoList h = omega arith
+number_some NoEntry h = omega arith
+number_some WrongKind h = omega arith
 
 -- so as many numbers are written as rows are counted
 
@@ -161,7 +140,7 @@ rows_long (suc n) file r w h = go (ltb w.at (length file)) (λ q. rows_long n fi
     found : (f : Found) → t.found ≡ f → ((q : Reply) → Long q (trace_in n file t.walk)) → Long r (trace_by f w.line t.row (trace_in n file t.walk))
     found Row e ih h = let k = ih (reply 0 0 (r.count + 1)) h in omega (arith, length-append (with_line t.row (pos w.line)) (rows_in (trace_in n file t.walk)), lined_wide t.row (pos w.line) (turn_wide file w))
     found Nothing e ih h = ih r h
-    found (Refused m) e ih h = absurd (turn_told file w m e h)
+    found (Refused m) e ih h = absurd (number_some m h)
 
     go : (b : Bool) → ((q : Reply) → Long q (trace_in n file t.walk)) → Long r (cond b (trace_by t.found w.line t.row (trace_in n file t.walk)) (done w))
     go true ih h = found t.found refl ih h

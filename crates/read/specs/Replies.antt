@@ -5,6 +5,7 @@ use Rattle.law.specs.Rows.{stride, capacity, with_line}
 use Rattle.order.specs.Automaton.{accepting, type_at}
 use Rattle.walk.specs.declared.Found.{Found}
 use Rattle.walk.specs.declared.Found.TheVariants.{Row, Nothing, Refused}
+use Rattle.law.specs.Refusals.{number_of}
 use Rattle.law.specs.declared.FileType.{FileType}
 use Rattle.law.specs.declared.FileType.TheVariants.{Library}
 use Rattle.law.specs.declared.Reply.{Reply}
@@ -19,7 +20,7 @@ use Rattle.names.specs.Names.{repeat_of}
 abbrev pub counted_by : Reply → ℕ → Found → Reply
 counted_by r l Row = reply 0 0 (r.count + 1)
 counted_by r l Nothing = r
-counted_by r l (Refused n) = reply n l 0
+counted_by r l (Refused e) = reply (number_of e) l 0
 
 -- at the end of the file: 13 where more lines are needed
 unfoldable pub ended_by : Reply → Walk → Reply

@@ -6,19 +6,15 @@ ghost use Rattle.law.specs.Answers.{limit, over};
 ghost use Rattle.read.specs.Replies.{placed_at, place_behind, rows_of, RowRoom};
 
 use rows::{STRIDE, WIDTH};
-use walk::{Turn, steps};
+use walk::Turn;
+use walk::steps::{self, Turns};
 
 // One row into the slice, from a place on: the numbers of its record, and its line's.
 pub fn put_row(rows: &mut [i64], at: usize, row: [i64; WIDTH], line: u64)
     requires { (at + stride ≤ length rows.old) × (line < 2 ^ 63) }
     ensures { rows.new ≡ paste rows.old at (with_line row (pos line)) stride }
 {
-    let mut i = 0;
-    while i < WIDTH {
-        let x = row[i];
-        rows[at + i] = x;
-        i += 1;
-    }
+    rows[at..at + WIDTH].copy_from_slice(&row);
     rows[at + WIDTH] = line as i64;
 }
 
@@ -28,10 +24,8 @@ fn put_turn(rows: &mut [i64], at: usize, line: u64, t: Turn) -> usize
     ensures value { result ≡ place_behind at t }
     ensures rows_after { rows.new ≡ placed_at rows.old at line t }
 {
-    let found = t.found;
-    let row = t.row;
-    if steps::is_row(found) {
-        put_row(rows, at, row, line);
+    if steps::is_row(t.found) {
+        put_row(rows, at, t.row, line);
         return at + STRIDE;
     }
     at
@@ -42,18 +36,11 @@ pub fn put_rows(file: &[u8], rows: &mut [i64])
     requires { (length file.now ≤ limit) × (length (rows_of file.now) ≤ length rows.old) }
     ensures { rows.new ≡ over (rows_of file.now) rows.old }
 {
-    let mut w = steps::begin();
-    let mut at = 0;
     let mut n = 0;
-    while at < file.len() {
-        let line = w.line;
-        let t = steps::turn(file, w);
-        let found = t.found;
-        if steps::stops(found) {
+    for t in Turns::of(file) {
+        if steps::stops(t.found) {
             return;
         }
-        n = put_turn(rows, n, line, t);
-        w = t.walk;
-        at = w.at;
+        n = put_turn(rows, n, t.line, t);
     }
 }

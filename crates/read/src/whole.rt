@@ -1,21 +1,24 @@
 // A whole file, checked or read into lent rows.
 ghost use Rattle.std.specs.Prelude.{◌≡◌, ◌^◌, ◌≤◌, ◌<◌, length};
 ghost use Rattle.law.specs.Answers.{limit, reply};
+ghost use Rattle.law.specs.Refusals.{number_of};
 ghost use Rattle.names.specs.Marks.{Doubted};
 ghost use Rattle.read.specs.Replies.{counted_by, ended_by, survey, check_reply, type_of, examined_within, examined, read_reply, read_rows};
 
 use crate::{Checked, lent};
-use law::{FileType, Reply, refusals};
+use law::refusals::Refusal;
+use law::{FileType, Reply};
 use names::{DOUBTS, FEW, MARKS, SMALL};
 use order::LIMIT;
-use walk::{Found, Walk, steps};
+use walk::steps::{self, Turns};
+use walk::{Found, Walk};
 
 // A refusal without a count.
-fn refusal(number: u64, line: u64) -> Reply
-    ensures { result ≡ reply number line 0 }
+fn refusal(e: Refusal, line: u64) -> Reply
+    ensures { result ≡ reply (number_of e) line 0 }
 {
     Reply {
-        number: number,
+        number: e.number(),
         line: line,
         count: 0,
     }
@@ -33,7 +36,7 @@ fn counted(r: Reply, line: u64, f: Found) -> Reply
             count: r.count + 1,
         },
         Found::Nothing => r,
-        Found::Refused(n) => refusal(n, line),
+        Found::Refused(e) => refusal(e, line),
     }
 }
 
@@ -45,7 +48,7 @@ fn ended(r: Reply, w: Walk) -> Reply
     if order_states::accepting(st) {
         return r;
     }
-    refusal(refusals::TOO_EARLY, w.line)
+    refusal(Refusal::TooEarly, w.line)
 }
 
 // What the first walk over a file tells: its reply but for names used twice, its type, and whether a name is doubtful.
@@ -64,32 +67,29 @@ fn surveyed(file: &[u8], marks: &mut [u16], doubts: &mut [u16]) -> FirstWalk
     ensures file_value { result.file ≡ type_of file.now }
     ensures doubted { Doubted file.now doubts.new result.doubtful }
 {
-    let mut w = steps::begin();
-    let mut at = 0;
-    let mut r = refusal(0, 0);
+    let mut end = steps::begin();
+    let mut r = Reply {
+        number: 0,
+        line: 0,
+        count: 0,
+    };
     let mut doubtful = false;
-    while at < file.len() {
-        let l = w.line;
-        let t = steps::turn(file, w);
-        let found = t.found;
-        r = counted(r, l, found);
-        if steps::stops(found) {
+    for t in Turns::of(file) {
+        r = counted(r, t.line, t.found);
+        if steps::stops(t.found) {
             return FirstWalk {
                 reply: r,
                 file: FileType::Library,
                 doubtful: doubtful,
             };
         }
-        let row = t.row;
         let named = names::names_component(t);
-        doubtful = doubtful | names::is_doubtful(file, named, row, marks, doubts);
-        w = t.walk;
-        at = w.at;
+        doubtful = doubtful | names::is_doubtful(file, named, t.row, marks, doubts);
+        end = t.walk;
     }
-    let st = w.state;
     FirstWalk {
-        reply: ended(r, w),
-        file: order_states::type_at(st),
+        reply: ended(r, end),
+        file: order_states::type_at(end.state),
         doubtful: doubtful,
     }
 }
@@ -109,29 +109,19 @@ fn walked(file: &[u8], marks: &mut [u16], doubts: &mut [u16]) -> Checked
     if n == 0 {
         return Checked { reply: r, file: t };
     }
-    let again = refusal(refusals::NAME_AGAIN, n);
+    let again = refusal(Refusal::NameAgain, n);
     Checked {
         reply: again,
         file: t,
     }
 }
 
-// A file within the limit, with few marks at hand.
-fn by_few(file: &[u8]) -> Checked
-    requires { length file.now ≤ limit }
+// A file within the limit, with so many words of marks at hand.
+fn within<const N: usize>(file: &[u8]) -> Checked
+    requires { (length file.now ≤ limit) × (0 < N) × (N < 2 ^ 62) }
     ensures { result ≡ examined_within file.now }
 {
-    let mut marks: [u16; FEW] = [0; FEW];
-    let mut doubts: [u16; DOUBTS] = [0; DOUBTS];
-    walked(file, &mut marks, &mut doubts)
-}
-
-// The same with all marks.
-fn by_all(file: &[u8]) -> Checked
-    requires { length file.now ≤ limit }
-    ensures { result ≡ examined_within file.now }
-{
-    let mut marks: [u16; MARKS] = [0; MARKS];
+    let mut marks: [u16; N] = [0; N];
     let mut doubts: [u16; DOUBTS] = [0; DOUBTS];
     walked(file, &mut marks, &mut doubts)
 }
@@ -143,16 +133,16 @@ pub fn examined(file: &[u8]) -> Checked
     ensures { result ≡ examined file.now }
 {
     if LIMIT < file.len() {
-        let large = refusal(refusals::TOO_LARGE, 0);
+        let large = refusal(Refusal::TooLarge, 0);
         return Checked {
             reply: large,
             file: FileType::Library,
         };
     }
     if file.len() < SMALL {
-        return by_few(file);
+        return within::<FEW>(file);
     }
-    by_all(file)
+    within::<MARKS>(file)
 }
 
 // A file's reply: 0 with the number of its rows, or its first refusal.
@@ -174,7 +164,7 @@ pub fn read(file: &[u8], rows: &mut [i64]) -> Reply
     }
     if (rows::capacity(rows.len()) as u64) < r.count {
         return Reply {
-            number: refusals::FEW_ROWS,
+            number: Refusal::FewRows.number(),
             line: 0,
             count: r.count,
         };

@@ -8,9 +8,8 @@ ghost use Rattle.law.specs.Rows.{capacity};
 ghost use Rattle.rows.specs.Columns.{column_at, kind_column, length_in, included_in, point_in, type_in_row};
 ghost use Rattle.rows.specs.RowKinds.{leads_component, component_kind};
 
-use basics::same_integers;
 use law::FileType;
-use number::{Angle, AngleAnswer, Length, LengthAnswer};
+use number::{Angle, Length};
 
 // How many numbers a record has: its kind and nine columns.
 pub const WIDTH: usize = 10;
@@ -18,7 +17,8 @@ pub const WIDTH: usize = 10;
 // How many numbers of a slice a row takes: those of its record, and its line's.
 pub const STRIDE: usize = 11;
 
-// Kinds of rows: the first line of a placement, the leading lines of components; and the last there is.
+// Kinds of rows: the first line of a placement, the leading lines of components; and the last there is. Numbers, since the rows that C
+// lends hold them.
 pub const PART: i64 = 131;
 
 pub const ELECTRICAL: i64 = 141;
@@ -77,17 +77,15 @@ pub fn capacity(n: usize) -> usize
 pub fn column_at(row: &[i64], i: usize) -> i64
     ensures { result ≡ column_at row.now i }
 {
-    if i < row.len() {
-        return row[i];
-    }
-    0
+    row.get(i).copied().unwrap_or(0)
 }
 
 // Whether a row is of this kind.
+#[tactic(auto, using(basics::proofs::Integers::bits_same))]
 pub fn has_kind(row: [i64; WIDTH], kind: i64) -> bool
     ensures { result ≡ eq_z (kind_column row) kind }
 {
-    same_integers(row[KIND], kind)
+    row[KIND] == kind
 }
 
 // The kind of an electrical or a mechanical component.
@@ -108,20 +106,14 @@ pub fn leads_component(row: [i64; WIDTH]) -> bool
 fn length_in(z: i64) -> Length
     ensures { result ≡ length_in z }
 {
-    match Length::new(z) {
-        LengthAnswer::Made(l) => l,
-        LengthAnswer::Beyond => Length::ZERO,
-    }
+    Length::new(z).unwrap_or(Length::ZERO)
 }
 
 // The included angle in a column, likewise.
 fn included_in(z: i64) -> Angle
     ensures { result ≡ included_in z }
 {
-    match Angle::included(z) {
-        AngleAnswer::Made(a) => a,
-        AngleAnswer::Beyond => Angle::ZERO,
-    }
+    Angle::included(z).unwrap_or(Angle::ZERO)
 }
 
 // The point in the row of a point line.
@@ -137,25 +129,20 @@ pub fn point_in(row: [i64; WIDTH]) -> Point
 }
 
 // The file's type in the row of a title line.
+#[tactic(auto, using(crate::proofs::ColumnLaws::row_board, crate::proofs::ColumnLaws::row_panel, crate::proofs::ColumnLaws::row_library))]
 pub fn file_type_in(row: [i64; WIDTH]) -> FileType
     ensures { result ≡ type_in_row row }
 {
-    if same_integers(row[FILE_TYPE], 0) {
-        return FileType::Board;
+    match row[FILE_TYPE] {
+        0 => FileType::Board,
+        1 => FileType::Panel,
+        _ => FileType::Library,
     }
-    if same_integers(row[FILE_TYPE], 1) {
-        return FileType::Panel;
-    }
-    FileType::Library
 }
 
 // Whether a file is a library.
 pub fn is_library(t: FileType) -> bool
     ensures { result ≡ is_library t }
 {
-    match t {
-        FileType::Board => false,
-        FileType::Panel => false,
-        FileType::Library => true,
-    }
+    matches!(t, FileType::Library)
 }

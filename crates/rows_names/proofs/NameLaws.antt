@@ -8,18 +8,15 @@ use Rattle.law.specs.Words.{named, is_in, folded, same_bytes}
 use Rattle.law.specs.Fits.{is_name, meaning}
 use Rattle.law.specs.declared.Texts.{Texts}
 use Rattle.law.specs.declared.Texts.TheVariants.{Plain, Reference, Hole}
-use Rattle.law.specs.declared.Limit.{Limit}
-use Rattle.law.specs.declared.Words.{Words}
 use Rattle.law.specs.declared.FieldType.{FieldType}
-use Rattle.law.specs.declared.FieldType.TheVariants.{Text as T, Date as D, Integer as I, Number as N, Word as W}
 use Rattle.basics.specs.Letters.{cased}
 use Rattle.basics.proofs.Bytes.{bytes_true, bytes_same}
 use Rattle.basics.proofs.Meanings.{meaning_cased}
 
 module _ (s : List ℕ) (x : Bool) (e : x ≡ same_bytes (cased true s) (cased false (ascii "NOREFDES"))) where
-  pub names_none : x ≡ true → true ≡ is_in (folded s) (named Reference)
+  pub names_none : x ≡ true → x ≡ is_in (folded s) (named Reference)
   unfolding named is_in cased
-  names_none h = rw (sym e ∙ h)
+  names_none h = h ∙ rw (sym e ∙ h)
 
   pub names_board : (y : Bool) → x ≡ false → y ≡ same_bytes (cased true s) (cased false (ascii "BOARD")) → y ≡ is_in (folded s) (named Reference)
   unfolding named is_in cased
@@ -44,26 +41,6 @@ module _ (k : Texts) (s : List ℕ) where
       go false false false = refl
 
 module _ (t : FieldType) (s : List ℕ) where
-  pub name_text : (k : Texts) (r : Bool) → t ≡ T k → r ≡ is_in (folded s) (named k) → r ≡ is_name t s
-  unfolding is_name
-  name_text k r h e = rw h e
-
-  pub name_date : t ≡ D → false ≡ is_name t s
-  unfolding is_name
-  name_date h = rw h
-
-  pub name_integer : t ≡ I → false ≡ is_name t s
-  unfolding is_name
-  name_integer h = rw h
-
-  pub name_number : {l : Limit} → t ≡ N l → false ≡ is_name t s
-  unfolding is_name
-  name_number h = rw h
-
-  pub name_word : {l : Words} → t ≡ W l → false ≡ is_name t s
-  unfolding is_name
-  name_word h = rw h
-
   -- by what was found
   module _ (x : Bool) (e : x ≡ is_name t s) (word : List ℕ) (r : Bool) where
     pub means_name : x ≡ true → r ≡ same_bytes (cased true s) (cased false word) → r ≡ same_bytes (meaning t s) word
@@ -76,8 +53,17 @@ module _ (t : FieldType) (s : List ℕ) where
 
 module _ (t : FieldType) (a b : List ℕ) where
   -- what has the same bytes means the same
-  pub same_own : (r : Bool) → r ≡ same_bytes a b → r ≡ true → true ≡ same_bytes (meaning t a) (meaning t b)
-  same_own r e h = sym (bytes_same (meaning t a) (meaning t b) (ap (meaning t) (bytes_true a b (sym e ∙ h))))
+  pub same_own : (r : Bool) → r ≡ same_bytes a b → r ≡ true → r ≡ same_bytes (meaning t a) (meaning t b)
+  same_own r e h = h ∙ sym (bytes_same (meaning t a) (meaning t b) (ap (meaning t) (bytes_true a b (sym e ∙ h))))
 
   pub same_meant : (x y r : Bool) → x ≡ is_name t a → y ≡ is_name t b → r ≡ same_bytes (cased x a) (cased y b) → r ≡ same_bytes (meaning t a) (meaning t b)
   same_meant x y r e f g = g ∙ rw (meaning_cased t a x e, meaning_cased t b y f)
+
+-- what each function of the code is proved by
+pub ruleset reference_laws = (names_none, names_board)
+
+pub ruleset named_laws = (named_plain, named_reference, named_hole)
+
+pub ruleset means_laws = (means_name, means_itself)
+
+pub ruleset same_laws = (same_own, same_meant)

@@ -1,70 +1,68 @@
-// Cases: how one is read from standard input, how it went, and how many were run.
-ghost use Rattle.std.specs.Prelude.{◌<◌, ◌≤◌, ◌≡◌, length};
+// Cases: how they are read from standard input, one after the other, and how many of them went well.
+ghost use Rattle.std.specs.Prelude.{◌≡◌, ◌≤◌, length, min};
 
-use crate::lent::least;
 use crate::saying;
 use crate::saying::say;
 
 // How many bytes a case's header has, with the byte 10 that ends it.
 pub const HEADER: usize = 64;
 
-// Room for a part of a case.
+// Room for a part of a case; an array, and the part's length is beside it, since no program here has a heap.
 pub type Room = [u8; 65_536];
 
-// How a case went; `Over` where standard input holds no further case.
-#[derive(Clone, Copy)]
-pub enum Went {
-    Well,
-    Badly,
-    Over,
+// Why a run ends before its cases do: what comes is no case.
+#[derive(Clone, Copy, PartialEq, Eq)]
+pub enum Fault {
+    Torn,
+    NotEnded,
+    TooLarge,
+    FileRefused,
 }
 
-impl Went {
-    // How a case went that was run: well where all is as expected.
-    pub fn of(well: bool) -> Went {
-        if well { Went::Well } else { Went::Badly }
+// Prints, on a line, why a run ended.
+fn say_fault(fault: Fault) {
+    match fault {
+        Fault::Torn => saying::line(b"a part torn"),
+        Fault::NotEnded => saying::line(b"no byte 10 behind a part"),
+        Fault::TooLarge => saying::line(b"a part too large"),
+        Fault::FileRefused => saying::line(b"a file refused"),
     }
 }
 
-// Whether a part came whole, with byte 10 as its last byte; says why if not.
-fn is_whole(part: &[u8], came: usize) -> bool {
-    let n = part.len();
-    if came != n {
-        saying::line(b"a part torn");
-        return false;
+// Whether a part is one: it came whole, with byte 10 as its last byte.
+fn whole(part: &[u8], came: usize) -> Result<(), Fault> {
+    if came != part.len() {
+        return Err(Fault::Torn);
     }
-    if n == 0 {
-        return true;
+    match part.last() {
+        None | Some(b'\n') => Ok(()),
+        Some(_) => Err(Fault::NotEnded),
     }
-    if part[n - 1] != 10 {
-        saying::line(b"no byte 10 behind a part");
-        return false;
-    }
-    true
 }
 
-// Whether a part came that fills a slice, with byte 10 as its last byte; says why if not.
-pub fn read_whole(part: &mut [u8]) -> bool {
+// Reads a part that fills a slice, with byte 10 as its last byte.
+pub fn read_whole(part: &mut [u8]) -> Result<(), Fault> {
     let came = io::read_full(0, part);
-    is_whole(part, came)
+    whole(part, came)
 }
 
 // The same of a part of n bytes, which is put at the start of a slice.
-pub fn read_part(room: &mut [u8], n: usize) -> bool {
+pub fn read_part(room: &mut [u8], n: usize) -> Result<(), Fault> {
     if n > room.len() {
-        saying::line(b"a part too large");
-        return false;
+        return Err(Fault::TooLarge);
     }
-    read_whole(&mut room[0..n])
+    read_whole(&mut room[..n])
 }
 
-// Whether a further header came.
-fn read_header(head: &mut [u8; HEADER]) -> bool {
-    let came = io::read_full(0, head);
+// The header that comes next, unless standard input ends before it.
+fn next_header() -> Result<Option<[u8; HEADER]>, Fault> {
+    let mut head = [0u8; HEADER];
+    let came = io::read_full(0, &mut head);
     if came == 0 {
-        return false;
+        return Ok(None);
     }
-    is_whole(head, came)
+    whole(&head, came)?;
+    Ok(Some(head))
 }
 
 // Room with no part in it.
@@ -75,9 +73,10 @@ pub fn room() -> Room
 }
 
 // The first n of some bytes, or all where there are no more.
-pub fn front(bytes: &[u8], n: usize) -> &[u8] {
-    let k = least(n, bytes.len());
-    &bytes[0..k]
+pub fn front(bytes: &[u8], n: usize) -> &[u8]
+    ensures { length result.now ≡ min n (length bytes.now) }
+{
+    &bytes[..n.min(bytes.len())]
 }
 
 // The part of n bytes that was read into some room.
@@ -87,14 +86,10 @@ pub fn part(room: &Room, n: usize) -> &[u8] {
 
 // How many bytes there are without the spaces at the end.
 fn len_without_spaces(bytes: &[u8]) -> usize {
-    let mut n = bytes.len();
-    while n > 0 {
-        if bytes[n - 1] != 32 {
-            return n;
-        }
-        n -= 1;
-    }
-    n
+    bytes
+        .iter()
+        .rposition(|b| *b != b' ')
+        .map_or(0, |last| last + 1)
 }
 
 // Prints the name of a case, the first bytes of its header without the spaces at their end, and a colon.
@@ -104,70 +99,23 @@ pub fn say_name(head: &[u8; HEADER], width: usize) {
     say(b": ");
 }
 
-// How many cases were run, and how many of them went badly. `left` is how many may follow: nothing says that standard input
-// ends, so it is counted down from a number that no run uses up. It is 0 once there is no further case.
-#[derive(Clone, Copy)]
+// How many cases were run, and how many of them went badly.
+#[derive(Clone, Copy, Default)]
 pub struct Totals {
-    pub left: u64,
     cases: u64,
     differ: u64,
 }
 
-// A number and one; no run counts to one so large that the test fails.
-fn more(n: u64) -> u64 {
-    if n < u64::MAX { n + 1 } else { n }
-}
-
 impl Totals {
-    // The same totals where no case follows.
-    fn ended(self) -> Totals
-        ensures { result.left ≡ 0 }
+    // One case more, well or badly; no run counts to the largest number.
+    fn add(self, well: bool) -> Totals
+        requires { self.differ ≤ self.cases }
+        ensures { result.differ ≤ result.cases }
     {
         Totals {
-            left: 0,
-            cases: self.cases,
-            differ: self.differ,
+            cases: self.cases.saturating_add(1),
+            differ: self.differ.saturating_add(u64::from(!well)),
         }
-    }
-
-    // The same totals, with the header of the case that follows read, if one does.
-    fn awaiting(self, head: &mut [u8; HEADER]) -> Totals
-        ensures { result.left ≤ self.left }
-    {
-        if read_header(head) {
-            return self;
-        }
-        self.ended()
-    }
-
-    // The totals before the first case, with its header read.
-    pub fn first(head: &mut [u8; HEADER]) -> Totals {
-        let none = Totals {
-            left: u64::MAX,
-            cases: 0,
-            differ: 0,
-        };
-        none.awaiting(head)
-    }
-
-    // The totals after a case, with the header of the next read.
-    pub fn next(self, went: Went, head: &mut [u8; HEADER]) -> Totals
-        requires { 0 < self.left }
-        ensures { result.left < self.left }
-    {
-        let differ = match went {
-            Went::Well => self.differ,
-            Went::Badly => more(self.differ),
-            Went::Over => {
-                return self.ended();
-            }
-        };
-        let totals = Totals {
-            left: self.left - 1,
-            cases: more(self.cases),
-            differ: differ,
-        };
-        totals.awaiting(head)
     }
 
     // Prints how many cases were run and how many of them differ, on a line.
@@ -177,4 +125,36 @@ impl Totals {
         saying::number(self.differ);
         saying::line(b" differ");
     }
+}
+
+// Runs each case of standard input, up to its end or to what is no case, and counts them.
+fn run_all<F: FnMut(&[u8; HEADER]) -> Result<bool, Fault>>(
+    totals: &mut Totals,
+    mut run_case: F,
+) -> Result<(), Fault>
+    requires callable { F.IsAlwaysCallable run_case }
+    requires counted { totals.old.differ ≤ totals.old.cases }
+    ensures { totals.new.differ ≤ totals.new.cases }
+{
+    // Nothing says that standard input ends, but no run comes to so many cases.
+    for _ in 0..u64::MAX {
+        let Some(head) = next_header()? else {
+            break;
+        };
+        *totals = totals.add(run_case(&head)?);
+    }
+    Ok(())
+}
+
+// Runs the cases of standard input by what answers of a case, given by its header, whether it went as expected, and counts them.
+// What is no case ends the run, and is named.
+pub fn run<F: FnMut(&[u8; HEADER]) -> Result<bool, Fault>>(run_case: F) -> Totals
+    requires { F.IsAlwaysCallable run_case }
+    ensures { result.differ ≤ result.cases }
+{
+    let mut totals = Totals::default();
+    if let Err(fault) = run_all(&mut totals, run_case) {
+        say_fault(fault);
+    }
+    totals
 }

@@ -1,5 +1,6 @@
 // What is lent to an operation: numbers or bytes with a mark in each, so that it shows which of them it wrote.
-ghost use Rattle.std.specs.Prelude.{◌≤◌, ◌≡◌, length};
+ghost use Rattle.std.specs.Prelude.{◌≡◌, ◌≢◌, ◌≤◌, length, pos, replicate, MatchResult};
+ghost use Rattle.std.specs.List.{list_all};
 
 use law::Reply;
 
@@ -9,63 +10,54 @@ pub const NUMBERS: usize = 8_192;
 // How many bytes there are to lend.
 pub const BYTES: usize = 4_096;
 
-// What a number is before it is lent.
-const NUMBER_MARK: i64 = 7_777_777;
+// What can be lent: its mark, which it holds before.
+pub trait Lent: Copy + PartialEq {
+    ghost MARK: { Self };
 
-// What a byte is before it is lent; no text holds it.
-const BYTE_MARK: u8 = 7;
-
-// The numbers to lend.
-pub fn numbers() -> [i64; NUMBERS]
-    ensures { 8192 ≡ length result }
-{
-    [NUMBER_MARK; NUMBERS]
+    const MARK: Self;
 }
 
-// The bytes to lend.
-pub fn bytes() -> [u8; BYTES]
-    ensures { 4096 ≡ length result }
-{
-    [BYTE_MARK; BYTES]
+impl Lent for i64 {
+    ghost MARK = { pos 7777777 };
+
+    const MARK: i64 = 7_777_777;
 }
 
-// The smaller of two numbers.
-pub fn least(a: usize, b: usize) -> usize
-    ensures { result ≤ b }
-{
-    if a < b { a } else { b }
+// No text holds this byte.
+impl Lent for u8 {
+    ghost MARK = { 7 };
+
+    const MARK: u8 = 7;
 }
 
-// How many rows, fields or bytes a reply hands out, where there is room for so many; none on a refusal.
+// N numbers or bytes to lend.
+pub fn unused<T: Lent, const N: usize>() -> [T; N]
+    ensures all { N ≡ length result }
+    ensures marked { result ≡ replicate N T.MARK }
+{
+    [T::MARK; N]
+}
+
+// Whether all of some numbers or bytes have their mark.
+pub fn is_untouched<T: Lent>(rest: &[T]) -> bool
+    ensures { result ≡ list_all (λ x. T.eq x T.MARK) rest.now }
+{
+    rest.iter().all(|x| *x == T::MARK)
+}
+
+// How many rows, fields or bytes a reply hands out, where there is room for so many; or the reply, where it is a refusal.
+pub fn accepted(came: Reply, room: usize) -> Result<usize, Reply>
+    ensures { MatchResult result (λ n. (came.number ≡ 0) × (n ≤ room) × (n ≤ came.count)) (λ r. (came.number ≢ 0) × (r ≡ came)) }
+{
+    if came.number != 0 {
+        return Err(came);
+    }
+    Ok((came.count as usize).min(room))
+}
+
+// The same, none on a refusal.
 pub fn handed_out(came: Reply, room: usize) -> usize
     ensures { result ≤ room }
 {
-    if came.number != 0 {
-        return 0;
-    }
-    least(came.count as usize, room)
-}
-
-// Whether all of some numbers have their mark.
-pub fn numbers_untouched(rest: &[i64]) -> bool {
-    let mut i = 0;
-    while i < rest.len() {
-        if rest[i] != NUMBER_MARK {
-            return false;
-        }
-        i += 1;
-    }
-    true
-}
-
-// Whether all of some bytes have their mark.
-pub fn bytes_untouched(rest: &[u8]) -> bool {
-    let mut i = 0;
-    while i < rest.len() {
-        if rest[i] != BYTE_MARK {
-            return false;
-        }
-        i += 1;
-    }
-    true
+    accepted(came, room).unwrap_or(0)
 }

@@ -1,4 +1,5 @@
-// What is printed to standard output.
+// What is printed to standard output: by the crate `io` and not by `print!`, which may fail, as no function here may, and which
+// trusts more functions of C than write.
 use law::{Reply, Verdict};
 
 // Prints bytes as they are.
@@ -36,16 +37,34 @@ pub fn line(words: &[u8]) {
     end_line();
 }
 
+// The numbers of a reply, as they are compared and printed; C reads replies, and `law` gives them no equality.
+fn of_reply(r: Reply) -> [u64; 3] {
+    [r.number, r.line, r.count]
+}
+
+// The same of a verdict.
+fn of_verdict(v: Verdict) -> [u64; 4] {
+    [v.number, v.line, v.count, v.which]
+}
+
+// Prints numbers with a space between two of them.
+fn spaced<const N: usize>(numbers: &[u64; N]) {
+    for (i, n) in numbers.iter().enumerate() {
+        if i > 0 {
+            say(b" ");
+        }
+        number(*n);
+    }
+}
+
 // Prints a reply: number, line and count.
 pub fn reply(r: Reply) {
-    number(r.number);
-    next(r.line);
-    next(r.count);
+    spaced(&of_reply(r));
 }
 
 // Whether two replies are the same.
 pub fn agree(a: Reply, b: Reply) -> bool {
-    (a.number == b.number) & (a.line == b.line) & (a.count == b.count)
+    of_reply(a) == of_reply(b)
 }
 
 // Flags what came unless it is the same as what is expected.
@@ -55,43 +74,26 @@ pub fn flag(same: bool) {
     }
 }
 
+// Prints the numbers that came beside those expected, on a line, and answers whether they are the same.
+fn compared<const N: usize>(came: [u64; N], expected: [u64; N]) -> bool {
+    let same = came == expected;
+    say(b"came ");
+    spaced(&came);
+    say(b", expected ");
+    spaced(&expected);
+    flag(same);
+    end_line();
+    same
+}
+
 // Prints the reply that came beside the one expected, on a line, and answers whether they are the same.
 pub fn replies(came: Reply, expected: Reply) -> bool {
-    let same = agree(came, expected);
-    say(b"came ");
-    reply(came);
-    say(b", expected ");
-    reply(expected);
-    flag(same);
-    end_line();
-    same
+    compared(of_reply(came), of_reply(expected))
 }
 
-// What a verdict says apart from which file it is about.
-fn reply_of(v: Verdict) -> Reply {
-    Reply {
-        number: v.number,
-        line: v.line,
-        count: v.count,
-    }
-}
-
-// Prints a verdict: number, line, count and which.
-fn verdict(v: Verdict) {
-    reply(reply_of(v));
-    next(v.which);
-}
-
-// Prints the verdict that came beside the one expected, on a line, and answers whether they are the same.
+// The same of verdicts: number, line, count and which.
 pub fn verdicts(came: Verdict, expected: Verdict) -> bool {
-    let same = agree(reply_of(came), reply_of(expected)) & (came.which == expected.which);
-    say(b"came ");
-    verdict(came);
-    say(b", expected ");
-    verdict(expected);
-    flag(same);
-    end_line();
-    same
+    compared(of_verdict(came), of_verdict(expected))
 }
 
 // Prints, on a line, whether what was lent and not handed out is as it was.

@@ -19,53 +19,44 @@ mod printed;
 
 use law::Reply;
 use rows::{STRIDE, capacity};
-use run::cases::{HEADER, Totals, Went};
+use run::cases::{Fault, HEADER};
 use run::{cases, columns, lent, saying};
 
 // Reads into some numbers; answers whether the reply is as expected and nothing but its rows was touched.
 fn read(file: &[u8], expected: Reply, numbers: &mut [i64]) -> bool {
     let came = read::whole::read(file, numbers);
     let agree = saying::replies(came, expected);
-    let n = lent::handed_out(came, capacity(numbers.len())) * STRIDE;
-    printed::say(&numbers[0..n]);
-    let kept = lent::numbers_untouched(&numbers[n..]);
+    let (rows, rest) = numbers.split_at(lent::handed_out(came, capacity(numbers.len())) * STRIDE);
+    printed::say(rows);
+    let kept = lent::is_untouched(rest);
     saying::kept(kept);
     agree & kept
 }
 
 // Reads into as many numbers as are asked for, or all there are.
 fn read_lent(file: &[u8], expected: Reply, many: usize) -> bool {
-    let mut numbers = lent::numbers();
-    let n = lent::least(many, lent::NUMBERS);
-    read(file, expected, &mut numbers[0..n])
+    let mut numbers: [i64; lent::NUMBERS] = lent::unused();
+    read(file, expected, &mut numbers[..many.min(lent::NUMBERS)])
 }
 
 // Runs a case on its file; answers whether it went as expected.
-fn run_case(head: &[u8; HEADER], file: &[u8]) -> bool {
+fn run_on(head: &[u8; HEADER], file: &[u8]) -> bool {
     cases::say_name(head, 32);
-    let expected = columns::reply(head, 49, 52, 58, 63);
+    let expected = columns::reply(head, 49..52, 52..58, 58..63);
     if head[32] == b'r' {
-        return read_lent(file, expected, columns::count(head, 37, 43));
+        return read_lent(file, expected, columns::count(head, 37..43));
     }
     saying::replies(read::whole::check(file), expected)
 }
 
-// Reads the file of a header and runs the case.
-fn take_case(head: &[u8; HEADER]) -> Went {
-    let n = columns::count(head, 43, 49);
+// Runs a case, given by its header: reads its file, and answers whether it went as expected.
+fn run_case(head: &[u8; HEADER]) -> Result<bool, Fault> {
+    let n = columns::count(head, 43..49);
     let mut room = cases::room();
-    if !cases::read_part(&mut room, n + 1) {
-        return Went::Over;
-    }
-    Went::of(run_case(head, cases::part(&room, n)))
+    cases::read_part(&mut room, n + 1)?;
+    Ok(run_on(head, cases::part(&room, n)))
 }
 
 fn main() {
-    let mut head = [0u8; HEADER];
-    let mut totals = Totals::first(&mut head);
-    while totals.left > 0 {
-        let went = take_case(&head);
-        totals = totals.next(went, &mut head);
-    }
-    totals.say();
+    cases::run(run_case).say();
 }

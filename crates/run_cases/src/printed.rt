@@ -2,21 +2,20 @@
 use rows::STRIDE;
 use run::saying;
 
-// Prints what stands behind the number at a place: a line's end behind each row.
-fn gap(i: usize) {
-    if i % STRIDE == STRIDE - 1 {
-        saying::end_line();
-    } else {
-        saying::say(b" ");
+// Prints a row on a line, with a space between two of its numbers.
+fn say_row(row: &[i64]) {
+    for (i, z) in row.iter().enumerate() {
+        if i > 0 {
+            saying::say(b" ");
+        }
+        saying::signed(*z);
     }
+    saying::end_line();
 }
 
 // Prints rows, a line each.
 pub(crate) fn say(numbers: &[i64]) {
-    let mut i = 0;
-    while i < numbers.len() {
-        saying::signed(numbers[i]);
-        gap(i);
-        i += 1;
+    for row in numbers.chunks_exact(STRIDE) {
+        say_row(row);
     }
 }

@@ -5,18 +5,6 @@ mod numbers;
 mod texts;
 
 fn main() {
-    numbers::malformed_numbers();
-    numbers::limits_of_numbers();
-    numbers::long_number();
-    numbers::million_zeros();
-    numbers::million_decimals();
-    numbers::integers();
-    numbers::dates();
-    texts::classes();
-    texts::more_classes();
-    texts::free_lines();
-    texts::quoted_lines();
-    texts::forbidden_lines();
-    texts::files();
-    texts::windows_files();
+    numbers::say_all();
+    texts::say_all();
 }

@@ -1,5 +1,5 @@
 // Numbers, integers and dates on edge cases.
-use number::{NumberAnswer, WholeAnswer};
+use number::NumberError;
 use run::saying;
 use run::saying::{end_line, say};
 
@@ -8,16 +8,12 @@ fn number(name: &[u8], s: &[u8]) {
     say(b"number ");
     say(name);
     match number_read::number(s, 5, number::Length::LARGEST) {
-        NumberAnswer::Count(z) => {
+        Ok(z) => {
             say(b": ");
             saying::signed(z);
         }
-        NumberAnswer::NotNumber => {
-            say(b": no number");
-        }
-        NumberAnswer::TooFine => {
-            say(b": too fine");
-        }
+        Err(NumberError::NotNumber) => say(b": no number"),
+        Err(NumberError::TooFine) => say(b": too fine"),
     }
     end_line();
 }
@@ -27,13 +23,11 @@ fn integer(name: &[u8], s: &[u8]) {
     say(b"integer ");
     say(name);
     match number_read::integer(s) {
-        WholeAnswer::Whole(z) => {
+        Some(z) => {
             say(b": ");
             saying::signed(z.value());
         }
-        WholeAnswer::NotInteger => {
-            say(b": no integer");
-        }
+        None => say(b": no integer"),
     }
     end_line();
 }
@@ -50,78 +44,93 @@ fn date(s: &[u8]) {
     end_line();
 }
 
-// Bytes that are no number.
-pub(crate) fn malformed_numbers() {
-    number(b"nothing", b"");
-    number(b"+", b"+");
-    number(b"-", b"-");
-    number(b".5", b".5");
-    number(b"5.", b"5.");
-    number(b"1e3", b"1e3");
-    number(b"+-1", b"+-1");
-    number(b"byte 255", b"\xff");
-}
-
-// Numbers on either side of a limit.
-pub(crate) fn limits_of_numbers() {
-    number(b"-0", b"-0");
-    number(b"-0.00001", b"-0.00001");
-    number(b"999999.99999", b"999999.99999");
-    number(b"-1000000", b"-1000000");
-    number(b"1.000001", b"1.000001");
-    number(b"1000000.000001", b"1000000.000001");
-    number(b"99999999999999999999999999", b"99999999999999999999999999");
-}
-
-// A number of one digit behind 10,000 zeros.
-pub(crate) fn long_number() {
-    let mut zeros = [48u8; 10_001];
-    zeros[10_000] = 55;
-    number(b"10,000 zeros and 7", &zeros);
-}
+// Bytes that are no number, and numbers on either side of a limit.
+const NUMBERS: [(&[u8], &[u8]); 15] = [
+    (b"nothing", b""),
+    (b"+", b"+"),
+    (b"-", b"-"),
+    (b".5", b".5"),
+    (b"5.", b"5."),
+    (b"1e3", b"1e3"),
+    (b"+-1", b"+-1"),
+    (b"byte 255", b"\xff"),
+    (b"-0", b"-0"),
+    (b"-0.00001", b"-0.00001"),
+    (b"999999.99999", b"999999.99999"),
+    (b"-1000000", b"-1000000"),
+    (b"1.000001", b"1.000001"),
+    (b"1000000.000001", b"1000000.000001"),
+    (b"99999999999999999999999999", b"99999999999999999999999999"),
+];
 
 // A number of a million decimals; a function of its own, since an array's length is known where it is a parameter's type.
 fn million(name: &[u8], long: &[u8; 1_000_002]) {
     number(name, long);
 }
 
-// A number with a million decimals, all of them 0.
-pub(crate) fn million_zeros() {
-    let mut long = [48u8; 1_000_002];
-    long[1] = 46;
-    million(b"0. and a million zeros", &long);
-}
-
-// A number with a million decimals, the last of them 1.
-pub(crate) fn million_decimals() {
-    let mut long = [48u8; 1_000_002];
-    long[1] = 46;
-    long[1_000_001] = 49;
-    million(b"0. and a million decimals, the last 1", &long);
+// Numbers of many bytes: a digit behind 10,000 zeros, a million decimals that are all 0, and a million of which the last is 1.
+fn long_numbers() {
+    let mut digits = [b'0'; 10_001];
+    digits[10_000] = b'7';
+    number(b"10,000 zeros and 7", &digits);
+    let mut decimals = [b'0'; 1_000_002];
+    decimals[1] = b'.';
+    million(b"0. and a million zeros", &decimals);
+    decimals[1_000_001] = b'1';
+    million(b"0. and a million decimals, the last 1", &decimals);
 }
 
 // Integers, and bytes that are none.
-pub(crate) fn integers() {
-    integer(b"nothing", b"");
-    integer(b"-", b"-");
-    integer(b"+000999999999", b"+000999999999");
-    integer(b"1000000000", b"1000000000");
-    integer(b"1.0", b"1.0");
-    integer(b"-0", b"-0");
-    let mut zeros = [48u8; 10_001];
-    zeros[0] = 45;
-    zeros[10_000] = 55;
+const INTEGERS: [(&[u8], &[u8]); 6] = [
+    (b"nothing", b""),
+    (b"-", b"-"),
+    (b"+000999999999", b"+000999999999"),
+    (b"1000000000", b"1000000000"),
+    (b"1.0", b"1.0"),
+    (b"-0", b"-0"),
+];
+
+// An integer of many bytes.
+fn long_integer() {
+    let mut zeros = [b'0'; 10_001];
+    zeros[0] = b'-';
+    zeros[10_000] = b'7';
     integer(b"- and 9,999 zeros and 7", &zeros);
 }
 
 // Dates, and bytes that are none.
-pub(crate) fn dates() {
-    date(b"");
-    date(b"0000/02/31.23:59:59");
-    date(b"2024/13/01.00:00:00");
-    date(b"2024/00/01.00:00:00");
-    date(b"2024/01/01.24:00:00");
-    date(b"2024/01/01.00:00:60");
-    date(b"2024-01-01.00:00:00");
-    date(b"10/22/96.16:20:19");
+const DATES: [&[u8]; 8] = [
+    b"",
+    b"0000/02/31.23:59:59",
+    b"2024/13/01.00:00:00",
+    b"2024/00/01.00:00:00",
+    b"2024/01/01.24:00:00",
+    b"2024/01/01.00:00:60",
+    b"2024-01-01.00:00:00",
+    b"10/22/96.16:20:19",
+];
+
+// Prints what the numbers read as.
+fn say_numbers() {
+    for (name, s) in NUMBERS {
+        number(name, s);
+    }
+    long_numbers();
+}
+
+// Prints what the integers read as.
+fn say_integers() {
+    for (name, s) in INTEGERS {
+        integer(name, s);
+    }
+    long_integer();
+}
+
+// Prints what all of them read as.
+pub(crate) fn say_all() {
+    say_numbers();
+    say_integers();
+    for s in DATES {
+        date(s);
+    }
 }

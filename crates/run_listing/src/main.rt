@@ -1,7 +1,10 @@
 // The canonical printer: prints the canonical text of the file on standard input, or number, line and count of its refusal.
 #![tactic(auto)]
 
+ghost use Rattle.std.specs.Prelude.{◌≤◌, IfOk, length};
+
 use law::Reply;
+use law::refusals::Refusal;
 use rows::{STRIDE, capacity};
 use run::{lent, saying};
 
@@ -14,54 +17,33 @@ const ROWS: usize = LARGEST / 2;
 // No field grows to more than four times its bytes with the byte behind it; the last line may lack its byte 10.
 const TEXT: usize = 4 * (LARGEST + 1);
 
-// Prints a reply, on a line.
-fn say_reply(r: Reply) {
-    saying::reply(r);
-    saying::end_line();
-}
-
-// Prints what was written: the front of the text, as long as the reply says, or the refusal.
-fn say_written(r: Reply, text: &[u8]) {
-    if r.number != 0 {
-        return say_reply(r);
+// Writes the canonical text of a file, and answers how many bytes it has; or the reply that refuses the file.
+fn listing(file: &[u8], text: &mut [u8]) -> Result<usize, Reply>
+    ensures { IfOk result (λ n. n ≤ length text.new) }
+{
+    if file.len() > LARGEST {
+        return Err(Reply {
+            number: Refusal::TooLarge.number(),
+            line: 0,
+            count: 0,
+        });
     }
-    let n = lent::handed_out(r, text.len());
-    saying::say(&text[0..n]);
-}
-
-// Prints rows as canonical text, over the file that they were read from.
-fn list_rows(rows: &[i64], file: &[u8]) {
-    let mut text = [0u8; TEXT];
-    let r = write::whole::write(rows, file, &mut text);
-    say_written(r, &text);
-}
-
-// Prints what was read: the rows' text, or the refusal.
-fn list_read(r: Reply, rows: &[i64], file: &[u8]) {
-    if r.number != 0 {
-        return say_reply(r);
-    }
-    let n = lent::handed_out(r, capacity(rows.len())) * STRIDE;
-    list_rows(&rows[0..n], file);
-}
-
-// Prints a file.
-fn list(file: &[u8]) {
     let mut rows = [0i64; ROWS * STRIDE];
-    let r = read::whole::read(file, &mut rows);
-    list_read(r, &rows, file);
+    let read = read::whole::read(file, &mut rows);
+    let n = lent::accepted(read, capacity(rows.len()))? * STRIDE;
+    let written = write::whole::write(&rows[..n], file, text);
+    lent::accepted(written, text.len())
 }
 
 fn main() {
     let mut input = [0u8; LARGEST + 1];
     let n = io::read_full(0, &mut input);
-    if LARGEST < n {
-        return say_reply(Reply {
-            number: 1,
-            line: 0,
-            count: 0,
-        });
+    let mut text = [0u8; TEXT];
+    match listing(&input[..n], &mut text) {
+        Ok(len) => saying::say(&text[..len]),
+        Err(refusal) => {
+            saying::reply(refusal);
+            saying::end_line();
+        }
     }
-    let all: &[u8] = &input;
-    list(&all[0..n]);
 }

@@ -18,16 +18,16 @@
 #![tactic(auto)]
 
 use law::Verdict;
-use run::cases::{HEADER, Totals, Went};
+use run::cases::{Fault, HEADER};
 use run::{cases, columns, saying};
 
 // The verdict that is expected.
 fn expected(head: &[u8; HEADER]) -> Verdict {
     Verdict {
-        number: columns::number(head, 49, 52),
-        line: columns::number(head, 52, 57),
-        count: columns::number(head, 57, 61),
-        which: columns::number(head, 61, 63),
+        number: columns::number(head, 49..52),
+        line: columns::number(head, 52..57),
+        count: columns::number(head, 57..61),
+        which: columns::number(head, 61..63),
     }
 }
 
@@ -39,29 +39,19 @@ fn answer(head: &[u8; HEADER], first: &[u8], second: &[u8]) -> Verdict {
     same::same(first, second)
 }
 
-// Reads the files of a header and runs the case.
-fn take_case(head: &[u8; HEADER]) -> Went {
-    let n = columns::count(head, 37, 43);
-    let m = columns::count(head, 43, 49);
+// Runs a case, given by its header: reads its files, and answers whether it went as expected.
+fn run_case(head: &[u8; HEADER]) -> Result<bool, Fault> {
+    let n = columns::count(head, 37..43);
+    let m = columns::count(head, 43..49);
     let mut first = cases::room();
     let mut second = cases::room();
-    if !cases::read_part(&mut first, n + 1) {
-        return Went::Over;
-    }
-    if !cases::read_part(&mut second, m + 1) {
-        return Went::Over;
-    }
+    cases::read_part(&mut first, n + 1)?;
+    cases::read_part(&mut second, m + 1)?;
     cases::say_name(head, 32);
     let came = answer(head, cases::part(&first, n), cases::part(&second, m));
-    Went::of(saying::verdicts(came, expected(head)))
+    Ok(saying::verdicts(came, expected(head)))
 }
 
 fn main() {
-    let mut head = [0u8; HEADER];
-    let mut totals = Totals::first(&mut head);
-    while totals.left > 0 {
-        let went = take_case(&head);
-        totals = totals.next(went, &mut head);
-    }
-    totals.say();
+    cases::run(run_case).say();
 }

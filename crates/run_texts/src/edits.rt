@@ -7,51 +7,37 @@ use run::columns;
 // How many bytes an edit has.
 pub(crate) const SIZE: usize = 32;
 
-// Puts a number at a place, if there is one.
-fn put(rows: &mut [i64], at: usize, z: i64) {
-    if at < rows.len() {
-        rows[at] = z;
-    }
-}
-
-// Puts a number at a place, and at that of each row behind it up to a last place.
-fn put_each(rows: &mut [i64], first: usize, last: usize, z: i64)
-    requires { last < 1000000000 }
-{
-    let mut at = first;
-    while at <= last {
-        put(rows, at, z);
-        at += STRIDE;
-    }
-}
-
 // The place of a column in a row, both counted from 1; no case has a 0 there.
 fn place(row: usize, column: usize) -> usize
     requires { (row < 10000000) × (column < 10000000) }
     ensures { result < 1000000000 }
 {
-    if row == 0 {
-        return 0;
-    }
-    if column == 0 {
+    if row == 0 || column == 0 {
         return 0;
     }
     (row - 1) * STRIDE + column - 1
 }
 
+// Puts a number at a place, and at that of each row behind it up to a last place, as far as there are such.
+fn put_each(rows: &mut [i64], first: usize, last: usize, z: i64)
+    requires { last < 1000000000 }
+{
+    for number in rows.iter_mut().take(last + 1).skip(first).step_by(STRIDE) {
+        *number = z;
+    }
+}
+
 // Makes an edit.
 fn make_one(rows: &mut [i64], edit: &[u8]) {
-    let column = columns::count(edit, 8, 11);
-    let first = place(columns::count(edit, 0, 4), column);
-    let last = place(columns::count(edit, 4, 8), column);
-    put_each(rows, first, last, columns::signed(edit, 11, 31));
+    let column = columns::count(edit, 8..11);
+    let first = place(columns::count(edit, 0..4), column);
+    let last = place(columns::count(edit, 4..8), column);
+    put_each(rows, first, last, columns::signed(edit, 11..31));
 }
 
 // Makes edits, one after the other.
 pub(crate) fn make(rows: &mut [i64], edits: &[u8]) {
-    let mut at = 0;
-    while SIZE <= edits.len() - at {
-        make_one(rows, &edits[at..at + SIZE]);
-        at += SIZE;
+    for edit in edits.chunks_exact(SIZE) {
+        make_one(rows, edit);
     }
 }

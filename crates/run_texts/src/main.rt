@@ -29,69 +29,51 @@
 mod edits;
 
 use law::Reply;
-use run::cases::{HEADER, Totals, Went};
+use run::cases::{Fault, HEADER};
 use run::{cases, columns, lent, saying};
 
 // Writes into some bytes; answers whether the reply is as expected and nothing but its text was touched.
 fn write(rows: &[i64], file: &[u8], expected: Reply, bytes: &mut [u8]) -> bool {
     let came = write::whole::write(rows, file, bytes);
     let agree = saying::replies(came, expected);
-    let n = lent::handed_out(came, bytes.len());
-    saying::say(&bytes[0..n]);
-    let kept = lent::bytes_untouched(&bytes[n..]);
+    let (text, rest) = bytes.split_at(lent::handed_out(came, bytes.len()));
+    saying::say(text);
+    let kept = lent::is_untouched(rest);
     saying::kept(kept);
     agree & kept
 }
 
 // Runs a case on rows with its edits made: lends as many bytes as the header says, or all there are.
-fn run_case(head: &[u8; HEADER], rows: &[i64], file: &[u8]) -> bool {
+fn run_rows(head: &[u8; HEADER], rows: &[i64], file: &[u8]) -> bool {
     cases::say_name(head, 30);
-    let mut bytes = lent::bytes();
-    let n = lent::least(columns::count(head, 38, 43), lent::BYTES);
-    write(
-        rows,
-        file,
-        columns::reply(head, 49, 52, 54, 63),
-        &mut bytes[0..n],
-    )
+    let expected = columns::reply(head, 49..52, 52..54, 54..63);
+    let mut bytes: [u8; lent::BYTES] = lent::unused();
+    let many = columns::count(head, 38..43).min(lent::BYTES);
+    write(rows, file, expected, &mut bytes[..many])
 }
 
 // Runs a case on its edits and its file: the file is read, and as many numbers as the header says are lent, or all there are.
-fn run_edited(head: &[u8; HEADER], edits: &[u8], file: &[u8]) -> Went {
+fn run_edited(head: &[u8; HEADER], edits: &[u8], file: &[u8]) -> Result<bool, Fault> {
     let mut numbers = [0i64; lent::NUMBERS];
-    let all: &mut [i64] = &mut numbers;
-    let r = read::whole::read(file, all);
-    if r.number != 0 {
-        saying::line(b"a file refused");
-        return Went::Over;
+    if read::whole::read(file, &mut numbers).number != 0 {
+        return Err(Fault::FileRefused);
     }
-    edits::make(all, edits);
-    let rows = &all[..];
-    let n = lent::least(columns::count(head, 30, 35), rows.len());
-    Went::of(run_case(head, &rows[0..n], file))
+    edits::make(&mut numbers, edits);
+    let many = columns::count(head, 30..35).min(lent::NUMBERS);
+    Ok(run_rows(head, &numbers[..many], file))
 }
 
-// Reads the edits and the file of a header and runs the case.
-fn take_case(head: &[u8; HEADER]) -> Went {
-    let k = columns::count(head, 35, 38) * edits::SIZE;
-    let n = columns::count(head, 43, 49);
+// Runs a case, given by its header: reads its edits and its file, and answers whether it went as expected.
+fn run_case(head: &[u8; HEADER]) -> Result<bool, Fault> {
+    let k = columns::count(head, 35..38) * edits::SIZE;
+    let n = columns::count(head, 43..49);
     let mut edits = cases::room();
     let mut file = cases::room();
-    if !cases::read_part(&mut edits, k) {
-        return Went::Over;
-    }
-    if !cases::read_part(&mut file, n + 1) {
-        return Went::Over;
-    }
+    cases::read_part(&mut edits, k)?;
+    cases::read_part(&mut file, n + 1)?;
     run_edited(head, cases::part(&edits, k), cases::part(&file, n))
 }
 
 fn main() {
-    let mut head = [0u8; HEADER];
-    let mut totals = Totals::first(&mut head);
-    while totals.left > 0 {
-        let went = take_case(&head);
-        totals = totals.next(went, &mut head);
-    }
-    totals.say();
+    cases::run(run_case).say();
 }

@@ -28,7 +28,7 @@
 mod fields;
 mod steps;
 
-use run::cases::{HEADER, Totals, Went};
+use run::cases::{Fault, HEADER};
 use run::{cases, columns, lent};
 use viewer::Step;
 
@@ -46,20 +46,18 @@ struct Stand {
 // What is expected of a call.
 fn expected(want: &[u8; CALL]) -> Step {
     Step {
-        reply: columns::reply(want, 0, 3, 9, 15),
-        at: columns::number(want, 15, 21) as usize,
-        line: columns::number(want, 21, 27),
+        reply: columns::reply(want, 0..3, 3..9, 9..15),
+        at: columns::number(want, 15..21) as usize,
+        line: columns::number(want, 21..27),
     }
 }
 
 // Makes a call on some numbers; it goes well if all is as expected and nothing but its fields' numbers was touched.
 fn call(file: &[u8], from: Stand, expected: Step, numbers: &mut [i64]) -> Stand {
     let came = viewer::step_at(file, from.at, from.line, numbers);
-    let reply = came.reply;
-    let n = lent::handed_out(reply, numbers.len() / 2) * 2;
-    let kept = lent::numbers_untouched(&numbers[n..]);
-    let well = steps::say(came, expected, kept);
-    fields::say(file, &numbers[0..n]);
+    let (fields, rest) = numbers.split_at(lent::handed_out(came.reply, numbers.len() / 2) * 2);
+    let well = steps::say(came, expected, lent::is_untouched(rest));
+    fields::say(file, fields);
     Stand {
         at: came.at,
         line: came.line,
@@ -70,47 +68,34 @@ fn call(file: &[u8], from: Stand, expected: Step, numbers: &mut [i64]) -> Stand 
 // Makes a call on as many numbers as the header says, or all there are.
 fn call_lent(head: &[u8; HEADER], file: &[u8], from: Stand, want: &[u8; CALL]) -> Stand {
     cases::say_name(head, 32);
-    let mut numbers = lent::numbers();
-    let n = lent::least(columns::count(head, 32, 38), lent::NUMBERS);
-    call(file, from, expected(want), &mut numbers[0..n])
+    let mut numbers: [i64; lent::NUMBERS] = lent::unused();
+    let many = columns::count(head, 32..38).min(lent::NUMBERS);
+    call(file, from, expected(want), &mut numbers[..many])
 }
 
-// Makes the calls of a case, each from the place where the one before it came.
-fn run_case(head: &[u8; HEADER], file: &[u8]) -> Went {
-    let calls = columns::number(head, 56, 63);
+// Makes the calls of a case on its file, each from the place where the one before it came; answers whether all went as expected.
+fn run_calls(head: &[u8; HEADER], file: &[u8]) -> Result<bool, Fault> {
     let mut stand = Stand {
-        at: columns::number(head, 44, 50) as usize,
-        line: columns::number(head, 50, 56),
+        at: columns::number(head, 44..50) as usize,
+        line: columns::number(head, 50..56),
         well: true,
     };
-    let mut i = 0;
-    while i < calls {
+    for _ in 0..columns::number(head, 56..63) {
         let mut want = [0u8; CALL];
-        if !cases::read_whole(&mut want) {
-            return Went::Over;
-        }
+        cases::read_whole(&mut want)?;
         stand = call_lent(head, file, stand, &want);
-        i += 1;
     }
-    Went::of(stand.well)
+    Ok(stand.well)
 }
 
-// Reads the file of a header and runs the case.
-fn take_case(head: &[u8; HEADER]) -> Went {
-    let n = columns::count(head, 38, 44);
+// Runs a case, given by its header: reads its file, and answers whether it went as expected.
+fn run_case(head: &[u8; HEADER]) -> Result<bool, Fault> {
+    let n = columns::count(head, 38..44);
     let mut room = cases::room();
-    if !cases::read_part(&mut room, n + 1) {
-        return Went::Over;
-    }
-    run_case(head, cases::part(&room, n))
+    cases::read_part(&mut room, n + 1)?;
+    run_calls(head, cases::part(&room, n))
 }
 
 fn main() {
-    let mut head = [0u8; HEADER];
-    let mut totals = Totals::first(&mut head);
-    while totals.left > 0 {
-        let went = take_case(&head);
-        totals = totals.next(went, &mut head);
-    }
-    totals.say();
+    cases::run(run_case).say();
 }

@@ -4,8 +4,7 @@ use viewer::Step;
 
 // Prints a step: the reply's number, line and count, and the place and the line number after it.
 fn say_one(s: Step) {
-    let reply = s.reply;
-    saying::reply(reply);
+    saying::reply(s.reply);
     saying::say(b" then ");
     saying::number(s.at as u64);
     saying::next(s.line);
@@ -13,9 +12,7 @@ fn say_one(s: Step) {
 
 // Whether two steps are the same.
 fn agree(a: Step, b: Step) -> bool {
-    let r = a.reply;
-    let q = b.reply;
-    saying::agree(r, q) & (a.at == b.at) & (a.line == b.line)
+    saying::agree(a.reply, b.reply) & ((a.at, a.line) == (b.at, b.line))
 }
 
 // Prints the step that came beside the one expected, on a line, and whether lent numbers were touched that no field took; answers

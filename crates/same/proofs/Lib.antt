@@ -1,4 +1,3 @@
-pub mod IgnoringLaws
 pub mod RowLaws
 pub mod NextLaws
 pub mod ListLaws

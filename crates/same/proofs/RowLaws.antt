@@ -5,13 +5,14 @@ use mathlib.Core.List.{List}
 use mathlib.Core.Bool.{Bool, true, false, not, ◌&&◌, false≢true}
 use native.Mathlib.Omega.{arith}
 use mir.Syntax.{w64}
-use mir.Val.{Fits, SFits}
+use mir.Val.{Fits, SFits, of_z}
 use mir.ValLaws.{to_z-of_z}
-use borrow.Author.Tests.{not-true, not-false}
+use borrow.Author.Tests.{not-true, not-false, eq-eqb, ne_eqb}
+use lib.Dec.{eqb}
 use lib.IntN.{ℤ, pos, nat_abs}
 use lib.ListN.{length, drop, drop_of_length-le}
 use lib.Seq.{drop-drop, get_or-drop}
-use Rattle.basics.proofs.Integers.{back}
+use Rattle.basics.proofs.Integers.{back, bits_same}
 use Rattle.rows.proofs.ColumnLaws.{column}
 use Rattle.rows.specs.Columns.{column_at, kind_column}
 use Rattle.basics.specs.Integers.{eq_z}
@@ -24,7 +25,6 @@ use Rattle.form_layouts.proofs.KindLaws.{seven, nine, type_here, widths_here}
 use Rattle.law.specs.Rows.{width}
 use Rattle.rows_texts.specs.Texts.{same_meanings}
 use Rattle.same.specs.declared.Ignored.{Ignored}
-use Rattle.same.specs.Ignoring.{ignored_at}
 use Rattle.same.specs.SameRows.{holds_bytes, same_field, agrees_at, same_from, same_fields, same_row}
 
 -- the first columns of what is left of a row
@@ -76,19 +76,9 @@ module _ (t : FieldType) (f : List ℕ) (x : List ℤ) (h : List ℕ) (y : List 
         to_z-of_z w64 (column_at y (c + 1)) g1,
       )
 
-  pub field_column : p ≡ false → q ≡ eq_z (column x c) (column y c) → q ≡ same_field t f (drop c x) h (drop c y)
+  pub field_column : p ≡ false → eqb (of_z w64 (column_at x c)) (of_z w64 (column_at y c)) ≡ same_field t f (drop c x) h (drop c y)
   unfolding same_field
-  field_column i j = j ∙ rw (sym e ∙ i, first_column x c, first_column y c, to_z-of_z w64 (column_at x c) f0, to_z-of_z w64 (column_at y c) g0)
-
--- a field that is left out or the same
-module _ (g : Ignored) (k i : ℕ) (t : FieldType) (f : List ℕ) (xs : List ℤ) (h : List ℕ) (ys : List ℤ) (p : Bool) (e : p ≡ ignored_at g k i) where
-  pub agrees_ignored : p ≡ true → true ≡ agrees_at g k i t f xs h ys
-  unfolding agrees_at
-  agrees_ignored j = rw (sym e ∙ j)
-
-  pub agrees_field : (q : Bool) → p ≡ false → q ≡ same_field t f xs h ys → q ≡ agrees_at g k i t f xs h ys
-  unfolding agrees_at
-  agrees_field q j l = rw (sym e ∙ j) l
+  field_column i = bits_same (column_at x c) (column_at y c) f0 g0 ∙ rw (sym e ∙ i, first_column x c, first_column y c)
 
 -- what is left of two rows tells whether all their fields agree
 pub record Agreeing (g : Ignored) (k : ℕ) (f : List ℕ) (x : List ℤ) (h : List ℕ) (y : List ℤ) (n c i : ℕ) : Type 0 where
@@ -140,14 +130,15 @@ module _ (g : Ignored) (k : ℕ) (f : List ℕ) (x : List ℤ) (h : List ℕ) (y
               }
 
 -- two rows
-module _ (g : Ignored) (f : List ℕ) (x : List ℤ) (h : List ℕ) (y : List ℤ) (p : Bool) (e : p ≡ eq_z (back (kind_column x)) (back (kind_column y))) (f0 : SFits w64 (kind_column x)) (g0 : SFits w64 (kind_column y)) where
-  kinds : p ≡ eq_z (kind_column x) (kind_column y)
-  kinds = e ∙ rw (to_z-of_z w64 (kind_column x) f0, to_z-of_z w64 (kind_column y) g0)
+module _ (g : Ignored) (f : List ℕ) (x : List ℤ) (h : List ℕ) (y : List ℤ) (f0 : SFits w64 (kind_column x)) (g0 : SFits w64 (kind_column y)) where
+  kinds : eqb (of_z w64 (kind_column x)) (of_z w64 (kind_column y)) ≡ eq_z (kind_column x) (kind_column y)
+  kinds = bits_same (kind_column x) (kind_column y) f0 g0
 
-  pub rows_differ : not p ≡ true → false ≡ same_row g f x h y
+  pub rows_differ : (of_z w64 (kind_column x) ≡ of_z w64 (kind_column y) → ⊥) → false ≡ same_row g f x h y
   unfolding same_row
-  rows_differ j = let z = not-true p j in rw (sym kinds ∙ z)
+  rows_differ j = rw (sym kinds ∙ ne_eqb (of_z w64 (kind_column x)) (of_z w64 (kind_column y)) j)
 
-  pub rows_by_fields : (n : ℕ) (q : Bool) → not p ≡ false → n ≡ nat_abs (back (kind_column x)) → q ≡ same_fields g n f x h y → q ≡ same_row g f x h y
+  pub rows_by_fields : (n : ℕ) (q : Bool) → of_z w64 (kind_column x) ≡ of_z w64 (kind_column y) → n ≡ nat_abs (back (kind_column x)) → q ≡ same_fields g n f x h y → q ≡ same_row g f x h y
   unfolding same_row
-  rows_by_fields n q j i l = let z = not-false p j in rw (sym kinds ∙ z) (l ∙ rw (i, to_z-of_z w64 (kind_column x) f0))
+  rows_by_fields n q j i l =
+      rw (sym kinds ∙ eq-eqb (of_z w64 (kind_column x)) (of_z w64 (kind_column y)) j) (l ∙ rw (i, to_z-of_z w64 (kind_column x) f0))

@@ -1,7 +1,6 @@
 -- Two files by their records in their order.
 use Rattle.std.specs.Prelude.{List, [], ◌∷◌, ℕ, Bool, true, false, ◌&&◌, ℤ}
-use Rattle.walk.specs.declared.Turn.{Turn}
-use Rattle.walk.specs.Walks.{is_row, Trace, done, stop, skip, row, trace_of}
+use Rattle.walk.specs.Walks.{Trace, done, stop, skip, row, trace_of}
 use Rattle.same.specs.SameRows.{same_row}
 use Rattle.same.specs.declared.Ignored.{Ignored}
 
@@ -21,10 +20,6 @@ same_lists g f [] h [] = true
 same_lists g f [] h (y ∷ ys) = false
 same_lists g f (x ∷ xs) h [] = false
 same_lists g f (x ∷ xs) h (y ∷ ys) = same_row g f x h y && same_lists g f xs h ys
-
--- one file's record p has a fellow q in the other, and it is the same
-unfoldable pub rows_meet : Ignored → List ℕ → Turn → List ℕ → Turn → Bool
-rows_meet g f p h q = is_row q.found && same_row g f p.row h q.row
 
 -- two files say the same list, but for the fields that are left out
 abbrev pub same_files : Ignored → List ℕ → List ℕ → Bool

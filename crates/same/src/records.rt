@@ -13,13 +13,7 @@ use rows::WIDTH;
 fn holds_bytes(t: FieldType) -> bool
     ensures { result ≡ holds_bytes t }
 {
-    match t {
-        FieldType::Text(_) => true,
-        FieldType::Date => true,
-        FieldType::Integer => false,
-        FieldType::Number(_) => false,
-        FieldType::Word(_) => false,
-    }
+    matches!(t, FieldType::Text(_) | FieldType::Date)
 }
 
 // Whether two records have the same in a field of a type, which begins at a column.
@@ -37,22 +31,20 @@ fn same_field(
     if holds_bytes(t) {
         return rows_texts::same_meanings(t, first, x[at], x[at + 1], second, y[at], y[at + 1]);
     }
-    basics::same_integers(x[at], y[at])
+    x[at] == y[at]
 }
 
 // Whether a comparison leaves out field i of the records of a kind.
+#[tactic(auto, unfolding(crate::specs::Ignoring::ignored_at))]
 fn is_ignored(g: Ignored, kind: u64, i: usize) -> bool
     requires { i < most_fields }
     ensures { result ≡ ignored_at g kind i }
 {
-    let fields = g.fields;
-    if g.kind == kind {
-        return fields[i];
-    }
-    false
+    g.kind == kind && g.fields[i]
 }
 
 // Whether two records of a kind agree in field i, of a type and from a column on, or it is left out.
+#[tactic(auto, unfolding(crate::specs::SameRows::agrees_at))]
 fn agrees_at(
     g: Ignored,
     kind: u64,
@@ -67,10 +59,7 @@ fn agrees_at(
     requires { (i < most_fields) × (at + width_of t ≤ width) }
     ensures { result ≡ agrees_at g kind i t first.now (drop at x) second.now (drop at y) }
 {
-    if is_ignored(g, kind, i) {
-        return true;
-    }
-    same_field(t, first, x, second, y, at)
+    is_ignored(g, kind, i) || same_field(t, first, x, second, y, at)
 }
 
 // Whether two records of a kind agree in all fields but those that are left out.
@@ -87,14 +76,12 @@ fn same_fields(
     let n = form_layouts::field_count(Rules::Idf3, kind);
     let layout = form_layouts::row_of(Rules::Idf3, kind);
     let mut at = 1;
-    let mut i = 0;
-    while i < n {
+    for i in 0..n {
         let t = form_layouts::field_type(Rules::Idf3, kind, layout, i);
         if !agrees_at(g, kind, i, t, first, x, second, y, at) {
             return false;
         }
         at += form_layouts::width_of(t);
-        i += 1;
     }
     true
 }
@@ -103,7 +90,7 @@ fn same_fields(
 pub fn same_row(g: Ignored, first: &[u8], x: [i64; WIDTH], second: &[u8], y: [i64; WIDTH]) -> bool
     ensures { result ≡ same_row g first.now x second.now y }
 {
-    if !basics::same_integers(x[rows::KIND], y[rows::KIND]) {
+    if x[rows::KIND] != y[rows::KIND] {
         return false;
     }
     same_fields(g, number::magnitude(x[rows::KIND]), first, x, second, y)

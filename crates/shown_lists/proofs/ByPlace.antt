@@ -1,7 +1,7 @@
 -- In a state, a data line that is not misplaced can have one kind only: its place, and whether it says PROP, decide.
 use Prim.Native.Nat.{ℕ}
 use mathlib.Core.Path.{◌≡◌, refl, sym, ap, ◌∙◌, subst}
-use mathlib.Core.Option.{Option, none, some}
+use Rattle.std.specs.Prelude.{Option, Some as some, None as none, Result, Ok as next, Err as refused}
 use mathlib.Core.Bool.{Bool, true, false, cond, false≢true}
 use native.Mathlib.Omega.{arith}
 use lib.Dec.{eqb}
@@ -9,7 +9,9 @@ use borrow.Author.Tests.{eqb-true}
 use Rattle.rows.specs.declared.Point.{Point}
 use Rattle.law.specs.Values.{Rec}
 use Rattle.law.specs.Sections.{Shape, header, outline, component, keepout, listing, placements}
-use Rattle.law.specs.Kinds.{kind_at, section_of, line_of, Role, opening, closing, title, name, lead, point, prop, entry, part, position, unknown, data_role, role_in, role_of}
+use Rattle.law.specs.Kinds.{kind_at, section_of, line_of, data_role, role_in, role_of}
+use Rattle.law.specs.declared.Role.{Role}
+use Rattle.law.specs.declared.Role.TheVariants.{Opening as opening, Closing as closing, Title as title, Name as name, Lead as lead, Point as point, Prop as prop, Entry as entry, Part as part, Position as position, Unknown as unknown}
 use Rattle.law.specs.Fits.{under, well_formed}
 use Rattle.law.specs.declared.Rules.{Rules}
 use Rattle.law.specs.declared.FileType.{FileType}
@@ -26,10 +28,10 @@ use Rattle.order.specs.declared.Phase.TheVariants.{AwaitTitle as await_title, Aw
 use Rattle.order.specs.declared.State.{State}
 use Rattle.order.specs.declared.State.TheVariants.{Between as between, Inside as inside}
 use Rattle.order.specs.declared.Reason.TheVariants.{Misplaced as misplaced, Unfit as unfit, BadLoop as bad_loop}
-use Rattle.order.specs.declared.Outcome.{Outcome}
-use Rattle.order.specs.declared.Outcome.TheVariants.{Next as next, Refused as refused}
+use Rattle.order.specs.declared.Reason.{Reason}
 use Rattle.order.proofs.Steps.{advance_is}
-use Rattle.shown_lists.proofs.Roles.{is_role_true, role_is, prop_component}
+use Rattle.order.proofs.Roles.{is_role_true}
+use Rattle.shown_lists.proofs.Roles.{role_is, prop_component}
 use Rattle.shown_lists.proofs.Tables.{kind_of_lem}
 
 -- the line that has a role in a section of this form
@@ -90,11 +92,11 @@ module _ (v : Rules) where
       sym (subst (λ (i : ℕ). kind_at v i (line_for (shape_of v i) a) ≡ k) in-s z)
 
   module _ (g : Stage) (s : ℕ) (r : Rec) (in-s : section_of v r.kind ≡ s) where
-    abbrev Not5 : Outcome → Type 0
+    abbrev Not5 : Result State Reason → Type 0
     Not5 o = o ≡ refused misplaced → ⊥
 
     -- not misplaced: it has the role, or the other way is not misplaced
-    not5 : {G : Type 0} (a : Role) (x y : Outcome) → (role_of v r.kind ≡ a → G) → (Not5 y → G)
+    not5 : {G : Type 0} (a : Role) (x y : Result State Reason) → (role_of v r.kind ≡ a → G) → (Not5 y → G)
         → Not5 (if_fit (is_role (role_of v r.kind) a) (well_formed (under v (file_of g)) r) x y) → G
     not5 {G} a x y k l = go (is_role (role_of v r.kind) a) refl
       where
@@ -113,7 +115,7 @@ module _ (v : Rules) where
     props_here e = ap has_props (subst (λ (i : ℕ). shape_of v i ≡ component) in-s (prop_component v r.kind e))
 
     -- it is no closing line
-    no_close : {G : Type 0} (x : Outcome) → is_role (role_of v r.kind) closing ≡ false
+    no_close : {G : Type 0} (x : Result State Reason) → is_role (role_of v r.kind) closing ≡ false
         → Not5 (if_fit (is_role (role_of v r.kind) closing) (well_formed (under v (file_of g)) r) x (refused misplaced)) → G
     no_close x c = not5 closing x _ (λ e. absurd (false≢true (sym (rw e at c)))) never
 
@@ -143,7 +145,7 @@ module _ (v : Rules) where
       go false e h = absurd (h refl)
 
 -- it can stand there
-Stands : Outcome → Type 0
+Stands : Result State Reason → Type 0
 Stands o = o ≡ refused misplaced → ⊥
 
 stands_next : (st : State) → Stands (next st)
@@ -158,7 +160,7 @@ stands_bad : Stands (refused bad_loop)
 unfolding Stands
 stands_bad h = let z : ◌≡◌ {A = ℕ} 0 1 = cc in omega arith
 
-stands_fit : (fit : Bool) (x : Outcome) → Stands x → Stands (cond fit x (refused unfit))
+stands_fit : (fit : Bool) (x : Result State Reason) → Stands x → Stands (cond fit x (refused unfit))
 stands_fit true x h = h
 stands_fit false x h = stands_unfit
 
@@ -175,7 +177,7 @@ unfolding moved
 stands_moved v (between g) k t d = stands_next _
 stands_moved v (inside g s p) k t d = go p
   where
-    points : (b done : Bool) (o : Outcome) (st : State) → Stands o → Stands (cond b o (only_if done (next st)))
+    points : (b done : Bool) (o : Result State Reason) (st : State) → Stands o → Stands (cond b o (only_if done (next st)))
     points true done o st h = h
     points false done o st h = stands_only done st
 

@@ -10,7 +10,7 @@ use Rattle.law.specs.Files.{titled}
 use Rattle.basics.proofs.Bools.{not_both, or_second}
 use Rattle.law.specs.Values.{Rec}
 use Rattle.law.specs.Sections.{Shape}
-use Rattle.law.specs.Kinds.{opening, closing, title, name, prop, entry}
+use Rattle.law.specs.declared.Role.TheVariants.{Opening as opening, Closing as closing, Title as title, Name as name, Prop as prop, Entry as entry}
 use Rattle.law.specs.declared.Rules.{Rules}
 use Rattle.law.specs.declared.FileType.{FileType}
 use Rattle.law.specs.declared.FileType.TheVariants.{Board as board, Panel as panel, Library as library}
@@ -26,7 +26,7 @@ use Rattle.order.specs.declared.Phase.{Phase}
 use Rattle.order.specs.declared.Phase.TheVariants.{AwaitTitle as await_title, AwaitName as await_name, HeaderFull as header_full, AwaitLead as await_lead, InPoints as in_points, InProps as in_props, InList as in_list, AwaitPart as await_part, AwaitPosition as await_position}
 use Rattle.order.specs.declared.State.{State}
 use Rattle.order.specs.declared.State.TheVariants.{Between as between, Inside as inside}
-use Rattle.order.specs.declared.Outcome.TheVariants.{Next as next}
+use Rattle.std.specs.Prelude.{Ok as next}
 use Rattle.law.specs.Lists.{bit, count, Line, Lines, no_line, line, Pairs, no_pair, pair, Body, led, points, listed, placed, Section, section, Sections, no_section, and_section, Header, header_of, header_of_library, Middle, Permitted, a_board, a_panel, a_library}
 use Rattle.law.specs.Bytes.{All}
 use Rattle.shown_lists.proofs.Roles.{starts_led}

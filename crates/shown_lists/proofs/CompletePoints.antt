@@ -3,14 +3,15 @@ use Prim.Native.Nat.{ℕ}
 use mathlib.Core.Path.{◌≡◌, refl, sym, ap, ◌∙◌, subst}
 use mathlib.Core.Logic.{◌≢◌, ◌⊎◌, inl, inr}
 use mathlib.Core.List.{List, [], ◌∷◌, ◌++◌}
-use mathlib.Core.Option.{some}
+use Rattle.std.specs.Prelude.{Some as some, Ok as next}
 use mathlib.Core.Bool.{Bool, true, false, cond}
 use lib.IntN.{ℤ, pos, suc_ℤ}
 use Rattle.basics.proofs.Integers.{eq_z_same, eq_z_differ}
 use Rattle.basics.proofs.Bools.{eqb_self}
 use Rattle.basics.specs.Integers.{eq_z}
 use Rattle.law.specs.Values.{Rec}
-use Rattle.law.specs.Kinds.{Role, opening, point}
+use Rattle.law.specs.declared.Role.{Role}
+use Rattle.law.specs.declared.Role.TheVariants.{Opening as opening, Point as point}
 use Rattle.law.specs.declared.Rules.{Rules}
 use Rattle.law.specs.declared.FileType.{FileType}
 use Rattle.law.specs.Records.{shape_of, many_loops, Place, label_of, place_of, angle_of}
@@ -27,7 +28,6 @@ use Rattle.order.specs.declared.Phase.{Phase}
 use Rattle.order.specs.declared.Phase.TheVariants.{InPoints as in_points}
 use Rattle.order.specs.declared.State.{State}
 use Rattle.order.specs.declared.State.TheVariants.{Between as between, Inside as inside}
-use Rattle.order.specs.declared.Outcome.TheVariants.{Next as next}
 use Rattle.law.specs.Lists.{Line, Step, Return, last, further, Loop, circle, path, Loops, final, another, Points, numbered, single}
 use Rattle.shown_lists.proofs.Spots.{spot, held, spot_of, same_true, same_same, same_differ, suc_differs}
 

@@ -15,8 +15,7 @@ use Rattle.law.specs.Records.{Named, names_a_component, name_in}
 use Rattle.order.specs.Automaton.{start, advance, accepting, accepted, accepts, is_among, repeats, noted, unless, admit, Ran, through, stopped, later, onward, run, type_at}
 use Rattle.order.specs.declared.State.{State}
 use Rattle.order.specs.declared.Reason.{Reason}
-use Rattle.order.specs.declared.Outcome.{Outcome}
-use Rattle.order.specs.declared.Outcome.TheVariants.{Next as next, Refused as refused}
+use Rattle.std.specs.Prelude.{Result, Ok as next, Err as refused}
 use Rattle.law.specs.Lists.{Permitted, names_of, AllDiffer, Distinct}
 use Rattle.shown_lists.proofs.Names.{not_among, among_false, Unused, unused_none, unused_one, unused_differ, differ_unused, letters, letters_text, longest, new_last, names_append}
 use Rattle.shown_lists.proofs.Sound.{accepted_permitted}
@@ -34,7 +33,7 @@ module _ (v : Rules) where
   pub taken : (used : List Named) (st mid : State) (r : Rec) → admit v used st r ≡ next mid → Taken used st mid r
   taken used st mid r = go (repeats v used r) (advance v st r) refl refl
     where
-      go : (b : Bool) (o : Outcome) → repeats v used r ≡ b → advance v st r ≡ o → unless b o ≡ next mid → Taken used st mid r
+      go : (b : Bool) (o : Result State Reason) → repeats v used r ≡ b → advance v st r ≡ o → unless b o ≡ next mid → Taken used st mid r
       go b (refused e) p q h = let z : ◌≡◌ {A = ℕ} 0 1 = cc in absurd (omega arith)
       go true (next t) p q h = let z : ◌≡◌ {A = ℕ} 0 1 = cc in absurd (omega arith)
       go false (next t) p q h = record { moves = q ∙ h; is_new = p }
@@ -60,7 +59,7 @@ module _ (v : Rules) where
   through_leads (r ∷ rs) used st en h = go (λ t. through_leads rs (noted v used r) t en) (admit v used st r) refl h
     where
       go : ((t : State) → run v (noted v used r) t rs ≡ through en → Leads v t rs en × Unused (noted v used r) (names_of v rs))
-          → (o : Outcome) → admit v used st r ≡ o → onward o (λ t. run v (noted v used r) t rs) ≡ through en → Leads v st (r ∷ rs) en × Unused used (names_of v (r ∷ rs))
+          → (o : Result State Reason) → admit v used st r ≡ o → onward o (λ t. run v (noted v used r) t rs) ≡ through en → Leads v st (r ∷ rs) en × Unused used (names_of v (r ∷ rs))
       go ih (refused e) q h = let z : ◌≡◌ {A = ℕ} 0 1 = cc in absurd (omega arith)
       go ih (next t) q h =
           let k = taken used st t r q in
@@ -87,7 +86,7 @@ module _ (v : Rules) where
   accepts_leads (r ∷ rs) st h = go (accepts_leads rs) (advance v st r) refl h
     where
       go : ((t : State) → accepts v t rs ≡ true → (en : State) × Leads v t rs en × (accepting en ≡ true))
-          → (o : Outcome) → advance v st r ≡ o → accepted o (λ t. accepts v t rs) ≡ true → (en : State) × Leads v st (r ∷ rs) en × (accepting en ≡ true)
+          → (o : Result State Reason) → advance v st r ≡ o → accepted o (λ t. accepts v t rs) ≡ true → (en : State) × Leads v st (r ∷ rs) en × (accepting en ≡ true)
       go ih (refused e) q h = absurd (false≢true h)
       go ih (next t) q h = let w = ih t h in (w.0, step q w.1, w.2)
 
@@ -155,7 +154,7 @@ module _ (v : Rules) where
   still_stopped [] used st k (suc i) e more h l = absurd (never_through h)
   still_stopped (r ∷ rs) used st k (suc i) e more h l = go k (admit v used st r) (λ t j. still_stopped rs (noted v used r) t j i e more) h l
     where
-      go : (k : ℕ) (o : Outcome)
+      go : (k : ℕ) (o : Result State Reason)
           → ((t : State) (j : ℕ) → run v (noted v used r) t rs ≡ stopped j e → j < i → run v (noted v used r) t (take i rs ++ more) ≡ stopped j e)
           → onward o (λ t. run v (noted v used r) t rs) ≡ stopped k e → k < suc i → onward o (λ t. run v (noted v used r) t (take i rs ++ more)) ≡ stopped k e
       go k (refused f) ih h l = h
@@ -167,7 +166,7 @@ module _ (v : Rules) where
   stopped_within (r ∷ rs) used st zero e h = omega arith
   stopped_within (r ∷ rs) used st (suc k) e h = go (admit v used st r) (λ t. stopped_within rs (noted v used r) t k e) h
     where
-      go : (o : Outcome) → ((t : State) → run v (noted v used r) t rs ≡ stopped k e → k < length rs)
+      go : (o : Result State Reason) → ((t : State) → run v (noted v used r) t rs ≡ stopped k e → k < length rs)
           → onward o (λ t. run v (noted v used r) t rs) ≡ stopped (suc k) e → suc k < length (r ∷ rs)
       go (refused f) ih h = let z : ◌≡◌ {A = ℕ} 0 (suc k) = cc in absurd (omega arith)
       go (next t) ih h = omega (arith, ih t (later_stopped _ k e h))
@@ -183,7 +182,7 @@ module _ (v : Rules) where
   through_before [] used st (suc j) k e h l = absurd (never_through h)
   through_before (r ∷ rs) used st (suc j) k e h l = go k (admit v used st r) (λ t i. through_before rs (noted v used r) t j i e) h l
     where
-      go : (k : ℕ) (o : Outcome) → ((t : State) (i : ℕ) → run v (noted v used r) t rs ≡ stopped i e → j ≤ i → Through (noted v used r) t (take j rs))
+      go : (k : ℕ) (o : Result State Reason) → ((t : State) (i : ℕ) → run v (noted v used r) t rs ≡ stopped i e → j ≤ i → Through (noted v used r) t (take j rs))
           → onward o (λ t. run v (noted v used r) t rs) ≡ stopped k e → suc j ≤ k → (en : State) × (onward o (λ t. run v (noted v used r) t (take j rs)) ≡ through en)
       go zero o ih h l = absurd (omega arith)
       go (suc i) (refused f) ih h l = let z : ◌≡◌ {A = ℕ} 0 (suc i) = cc in absurd (omega arith)
@@ -195,7 +194,7 @@ module _ (v : Rules) where
   through_part [] used st en (suc j) h = (st, refl)
   through_part (r ∷ rs) used st en (suc j) h = go (admit v used st r) (λ t. through_part rs (noted v used r) t en j) h
     where
-      go : (o : Outcome) → ((t : State) → run v (noted v used r) t rs ≡ through en → Through (noted v used r) t (take j rs))
+      go : (o : Result State Reason) → ((t : State) → run v (noted v used r) t rs ≡ through en → Through (noted v used r) t (take j rs))
           → onward o (λ t. run v (noted v used r) t rs) ≡ through en → (en : State) × (onward o (λ t. run v (noted v used r) t (take j rs)) ≡ through en)
       go (refused f) ih h = absurd (never_through (sym h))
       go (next t) ih h = let w = ih t (later_through _ _ h) in (w.0, ap later w.1)

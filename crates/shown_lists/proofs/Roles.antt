@@ -7,11 +7,13 @@ use native.Mathlib.Omega.{arith}
 use lib.Dec.{eqb}
 use borrow.Author.Tests.{eqb-true}
 use Rattle.law.specs.Sections.{SectionForm as Sect, Shape, header, outline, component, keepout, listing, placements, section_at}
-use Rattle.law.specs.Kinds.{section_of, line_of, Role, opening, closing, title, name, lead, point, prop, entry, part, position, unknown, data_role, role_in, role_by, role_of}
+use Rattle.law.specs.Kinds.{section_of, line_of, data_role, role_in, role_by, role_of}
+use Rattle.law.specs.declared.Role.{Role}
+use Rattle.law.specs.declared.Role.TheVariants.{Opening as opening, Closing as closing, Title as title, Name as name, Lead as lead, Point as point, Prop as prop, Entry as entry, Part as part, Position as position, Unknown as unknown}
 use Rattle.law.specs.declared.Rules.{Rules}
 use Rattle.law.specs.Records.{shape_by, shape_of}
 use Rattle.order.specs.Places.{point_line}
-use Rattle.order.specs.Automaton.{start_of, role_number, is_role}
+use Rattle.order.specs.Automaton.{start_of, is_role}
 use Rattle.order.specs.declared.Phase.TheVariants.{AwaitLead as await_lead}
 use Rattle.law.specs.Lists.{leads}
 
@@ -22,36 +24,6 @@ is_some (some x) = true
 -- the number of a section of the table
 abbrev pub is_section : Rules → ℕ → Bool
 is_section v s = is_some (section_at v s)
-
-role_numbered : ℕ → Role
-role_numbered n =
-    cond (eqb n 0) opening
-    (cond (eqb n 1) title
-    (cond (eqb n 2) name
-    (cond (eqb n 3) lead
-    (cond (eqb n 4) point
-    (cond (eqb n 5) prop
-    (cond (eqb n 6) entry
-    (cond (eqb n 7) part
-    (cond (eqb n 8) position
-    (cond (eqb n 9) closing unknown)))))))))
-
-numbered_back : (a : Role) → role_numbered (role_number a) ≡ a
-unfolding role_numbered
-numbered_back opening = refl
-numbered_back closing = refl
-numbered_back title = refl
-numbered_back name = refl
-numbered_back lead = refl
-numbered_back point = refl
-numbered_back prop = refl
-numbered_back entry = refl
-numbered_back part = refl
-numbered_back position = refl
-numbered_back unknown = refl
-
-pub is_role_true : (a b : Role) → is_role a b ≡ true → a ≡ b
-is_role_true a b h = sym (numbered_back a) ∙ ap role_numbered (eqb-true _ _ h) ∙ numbered_back b
 
 abbrev pub is_header : Shape → Bool
 is_header header = true

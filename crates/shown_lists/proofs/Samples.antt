@@ -16,7 +16,9 @@ use Rattle.law.specs.Limits.{largest_length}
 use Rattle.law.specs.Dates.{date_pieces, is_two, fits_in, is_date}
 use Rattle.law.specs.Values.{Value, number, word, text, Rec}
 use Rattle.law.specs.Words.{same_bytes, named, is_in, folded}
-use Rattle.law.specs.Kinds.{kind_at, section_of, Role, lead, point, part, unknown, role_of}
+use Rattle.law.specs.Kinds.{kind_at, section_of, role_of}
+use Rattle.law.specs.declared.Role.{Role}
+use Rattle.law.specs.declared.Role.TheVariants.{Lead as lead, Point as point, Part as part, Unknown as unknown}
 use Rattle.law.specs.Layouts.{types_of}
 use Rattle.law.specs.Fits.{version_of, is_board, under, within, text_byte, barred, good_text, meaning, fits, fits_all, well_formed, WellFormed, is_name}
 use Rattle.law.specs.declared.Rules.{Rules}

@@ -2,7 +2,7 @@
 use Prim.Native.Nat.{ℕ}
 use mathlib.Core.Path.{◌≡◌, refl, ap}
 use mathlib.Core.Logic.{◌≢◌}
-use mathlib.Core.Option.{Option, none, some}
+use Rattle.std.specs.Prelude.{Option, Some as some, None as none, Result, Ok as next, Err as refused}
 use mathlib.Core.Bool.{Bool, true, false, cond, ◌&&◌}
 use lib.Dec.{eqb}
 use lib.IntN.{ℤ, pos, suc_ℤ}
@@ -12,7 +12,9 @@ use Rattle.basics.proofs.Bools.{both}
 use Rattle.basics.specs.Integers.{eq_z}
 use Rattle.law.specs.Values.{Rec}
 use Rattle.law.specs.Sections.{Shape, header, outline, component, keepout, listing, placements}
-use Rattle.law.specs.Kinds.{section_of, Role, opening, closing, title, name, lead, point, prop, entry, part, position, role_of}
+use Rattle.law.specs.Kinds.{section_of, role_of}
+use Rattle.law.specs.declared.Role.{Role}
+use Rattle.law.specs.declared.Role.TheVariants.{Opening as opening, Closing as closing, Title as title, Name as name, Lead as lead, Point as point, Prop as prop, Entry as entry, Part as part, Position as position}
 use Rattle.law.specs.Fits.{under, well_formed}
 use Rattle.law.specs.declared.Rules.{Rules}
 use Rattle.law.specs.declared.FileType.{FileType}
@@ -31,11 +33,11 @@ use Rattle.order.specs.declared.Phase.TheVariants.{AwaitTitle as await_title, Aw
 use Rattle.order.specs.declared.State.{State}
 use Rattle.order.specs.declared.State.TheVariants.{Between as between, Inside as inside}
 use Rattle.order.specs.declared.Reason.TheVariants.{Misplaced as misplaced}
-use Rattle.order.specs.declared.Outcome.{Outcome}
-use Rattle.order.specs.declared.Outcome.TheVariants.{Next as next, Refused as refused}
+use Rattle.order.specs.declared.Reason.{Reason}
 use Rattle.law.specs.Lists.{leads, Line}
 use Rattle.shown_lists.proofs.Spots.{spot, spot_of, same_false}
-use Rattle.shown_lists.proofs.Roles.{is_section, is_role_true, has_points, led_points, role_known}
+use Rattle.order.proofs.Roles.{is_role_true}
+use Rattle.shown_lists.proofs.Roles.{is_section, has_points, led_points, role_known}
 
 module _ (v : Rules) where
   -- the first point of the loop that is being read
@@ -106,7 +108,7 @@ module _ (v : Rules) where
     fine_after many (fine_back {l} {f} a) = pick_fine (goes_on l f (point_of r)) _ _ (reached_fine l f a) (next_fine many l)
     fine_after many (fine_round {l}) = next_fine many l
 
-  abbrev pub SaneOf : Outcome → Type 0
+  abbrev pub SaneOf : Result State Reason → Type 0
   SaneOf (next st) = Sane st
   SaneOf (refused e) = Unit {0}
 
@@ -123,7 +125,7 @@ module _ (v : Rules) where
   sane_title_on g s panel e = sane_name e
   sane_title_on g s library e = sane_full
 
-  sane_if : (done : Bool) (x : Outcome) → SaneOf x → SaneOf (only_if done x)
+  sane_if : (done : Bool) (x : Result State Reason) → SaneOf x → SaneOf (only_if done x)
   sane_if true x h = h
   sane_if false x h = tt
 
@@ -132,7 +134,7 @@ module _ (v : Rules) where
     sane_point none h f = tt
     sane_point (some l) h f = sane_inside i (sane_points h f)
 
-    sane_way : (a : Role) (x y : Outcome) → (Line v (file_of g) s a r → SaneOf x) → SaneOf y
+    sane_way : (a : Role) (x y : Result State Reason) → (Line v (file_of g) s a r → SaneOf x) → SaneOf y
         → SaneOf (if_fit (is_role (role_of v r.kind) a) (well_formed (under v (file_of g)) r) x y)
     sane_way a x y k l = go (is_role (role_of v r.kind) a) (well_formed (under v (file_of g)) r) refl refl
       where

@@ -9,7 +9,8 @@ use borrow.Author.Tests.{eqb-true}
 use Rattle.basics.proofs.Bools.{both, not_both}
 use Rattle.law.specs.Values.{Rec}
 use Rattle.law.specs.Sections.{Shape, header, outline, component, keepout, listing, placements}
-use Rattle.law.specs.Kinds.{section_of, opening, closing, title, prop, role_of}
+use Rattle.law.specs.Kinds.{section_of, role_of}
+use Rattle.law.specs.declared.Role.TheVariants.{Opening as opening, Closing as closing, Title as title, Prop as prop}
 use Rattle.law.specs.Fits.{under, well_formed}
 use Rattle.law.specs.declared.Rules.{Rules}
 use Rattle.law.specs.declared.FileType.{FileType}
@@ -24,9 +25,10 @@ use Rattle.order.specs.declared.Phase.TheVariants.{AwaitTitle as await_title}
 use Rattle.order.specs.declared.State.{State}
 use Rattle.order.specs.declared.State.TheVariants.{Between as between, Inside as inside}
 use Rattle.order.specs.declared.Reason.TheVariants.{Misplaced as misplaced}
-use Rattle.order.specs.declared.Outcome.TheVariants.{Next as next, Refused as refused}
+use Rattle.std.specs.Prelude.{Ok as next, Err as refused}
 use Rattle.law.specs.Lists.{leads, bit, Line, Points, Lines, no_line, line, Body, led, points, listed, placed, Section, section, no_section, and_section, header_of, header_of_library, Permitted, a_board, a_panel, a_library}
-use Rattle.shown_lists.proofs.Roles.{is_role_true, is_header, prop_component}
+use Rattle.order.proofs.Roles.{is_role_true}
+use Rattle.shown_lists.proofs.Roles.{is_header, prop_component}
 use Rattle.shown_lists.proofs.Tables.{header_first, header_not_middle, no_header}
 use Rattle.shown_lists.proofs.Samples.{retype}
 use Rattle.shown_lists.proofs.SoundPoints.{at_none}

@@ -3,7 +3,7 @@ use Prim.Native.Nat.{ℕ}
 use mathlib.Core.Path.{◌≡◌, refl, sym, subst}
 use mathlib.Core.Logic.{◌≢◌, ◌⊎◌, inl, inr, ⊎_elim}
 use mathlib.Core.List.{List, [], ◌∷◌, ◌++◌, append-nil}
-use mathlib.Core.Option.{Option, none, some}
+use Rattle.std.specs.Prelude.{Option, Some as some, None as none}
 use mathlib.Core.Bool.{Bool, true, false, cond, ◌&&◌, false≢true}
 use lib.IntN.{ℤ, pos, suc_ℤ}
 use borrow.Author.Tests.{not-true}
@@ -11,7 +11,7 @@ use Rattle.basics.proofs.Integers.{eq_z_true, eq_z_false}
 use Rattle.basics.proofs.Bools.{both, either, other, not_both}
 use Rattle.basics.specs.Integers.{eq_z}
 use Rattle.law.specs.Values.{Rec}
-use Rattle.law.specs.Kinds.{point}
+use Rattle.law.specs.declared.Role.TheVariants.{Point as point}
 use Rattle.law.specs.declared.Rules.{Rules}
 use Rattle.law.specs.declared.FileType.{FileType}
 use Rattle.law.specs.Records.{many_loops, Place, label_of, place_of, angle_of}

@@ -2,12 +2,14 @@
 use Prim.Native.Nat.{ℕ, ◌+◌, ◌≤◌}
 use mathlib.Core.Path.{◌≡◌, refl, sym, subst}
 use mathlib.Core.List.{List, [], ◌∷◌, ◌++◌}
-use mathlib.Core.Option.{Option, none, some}
+use Rattle.std.specs.Prelude.{Option, Some as some, None as none, Result, Ok as next, Err as refused}
 use mathlib.Core.Bool.{Bool, true, false, cond, false≢true}
 use lib.Dec.{eqb}
 use borrow.Author.Tests.{eqb-true}
 use Rattle.law.specs.Values.{Rec}
-use Rattle.law.specs.Kinds.{section_of, Role, closing, title, name, lead, point, prop, entry, part, position, role_of}
+use Rattle.law.specs.Kinds.{section_of, role_of}
+use Rattle.law.specs.declared.Role.{Role}
+use Rattle.law.specs.declared.Role.TheVariants.{Closing as closing, Title as title, Name as name, Lead as lead, Point as point, Prop as prop, Entry as entry, Part as part, Position as position}
 use Rattle.law.specs.Fits.{under, well_formed}
 use Rattle.law.specs.declared.Rules.{Rules}
 use Rattle.law.specs.declared.FileType.{FileType}
@@ -26,11 +28,10 @@ use Rattle.order.specs.declared.Phase.TheVariants.{AwaitTitle as await_title, Aw
 use Rattle.order.specs.declared.State.{State}
 use Rattle.order.specs.declared.State.TheVariants.{Between as between, Inside as inside}
 use Rattle.order.specs.declared.Reason.TheVariants.{Misplaced as misplaced}
-use Rattle.order.specs.declared.Outcome.{Outcome}
-use Rattle.order.specs.declared.Outcome.TheVariants.{Next as next, Refused as refused}
+use Rattle.order.specs.declared.Reason.{Reason}
 use Rattle.law.specs.Lists.{bit, count, Line, Points, Lines, no_line, line, Pairs, no_pair, pair, Section, Sections, Middle, Permitted}
 use Rattle.law.specs.Bytes.{All}
-use Rattle.shown_lists.proofs.Roles.{is_role_true}
+use Rattle.order.proofs.Roles.{is_role_true}
 use Rattle.shown_lists.proofs.SoundPoints.{Tail, at_none, tail_complete, TailOf, point_before}
 
 module _ (v : Rules) where
@@ -103,7 +104,7 @@ module _ (v : Rules) where
     points_before l m e k (rest_body (at_points {ps = ps} tail q) c o) =
         rest_body (at_points (point_before v (file_of g) s k l (subst (λ (x : Option LoopState). TailOf v (file_of g) s x ps) (sym e) tail)) q) c o
 
-  only : {G : Type 0} (b : Bool) (x : Outcome) (f : State → Bool) → (b ≡ true → accepted x f ≡ true → G) → accepted (only_if b x) f ≡ true → G
+  only : {G : Type 0} (b : Bool) (x : Result State Reason) (f : State → Bool) → (b ≡ true → accepted x f ≡ true → G) → accepted (only_if b x) f ≡ true → G
   only true x f k h = k refl h
   only false x f k h = absurd (false≢true h)
 
@@ -112,7 +113,7 @@ module _ (v : Rules) where
     onward st = accepts v st ms
 
     -- a role that is looked for: the record has it and is fit, or the other way is taken
-    way : {G : Type 0} (a : Role) (x y : Outcome) → (Line v (file_of g) s a r → accepted x onward ≡ true → G) → (accepted y onward ≡ true → G)
+    way : {G : Type 0} (a : Role) (x y : Result State Reason) → (Line v (file_of g) s a r → accepted x onward ≡ true → G) → (accepted y onward ≡ true → G)
         → accepted (if_fit (is_role (role_of v r.kind) a) (well_formed (under v (file_of g)) r) x y) onward ≡ true → G
     way {G} a x y k l = go (is_role (role_of v r.kind) a) (well_formed (under v (file_of g)) r) refl refl
       where

@@ -16,7 +16,9 @@ use Rattle.basics.proofs.Bools.{both, either, other, not_both}
 use Rattle.law.specs.Values.{number}
 use Rattle.law.specs.Words.{words_of, word_at}
 use Rattle.law.specs.Sections.{SectionForm as Sect, header, placements, sections, nth, section_at}
-use Rattle.law.specs.Kinds.{kind_at, section_of, line_of, Role, lead, point, part, unknown, role_in, role_of, last_kind}
+use Rattle.law.specs.Kinds.{kind_at, section_of, line_of, role_in, role_of, last_kind}
+use Rattle.law.specs.declared.Role.{Role}
+use Rattle.law.specs.declared.Role.TheVariants.{Lead as lead, Point as point, Part as part, Unknown as unknown}
 use Rattle.law.specs.Layouts.{Layout, layout_of, types_of}
 use Rattle.law.specs.Fits.{version_of, under, within, good_word, is_empty, fits, fits_all}
 use Rattle.law.specs.declared.Rules.{Rules}

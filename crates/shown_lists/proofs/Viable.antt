@@ -3,7 +3,7 @@ use Prim.Native.Nat.{ℕ, ◌≤◌}
 use mathlib.Core.Path.{◌≡◌, refl, sym, ap, ◌∙◌}
 use mathlib.Core.Logic.{◌≢◌}
 use mathlib.Core.List.{List, [], ◌∷◌}
-use mathlib.Core.Option.{some}
+use Rattle.std.specs.Prelude.{Some as some, Ok as next}
 use mathlib.Core.Bool.{Bool, true, false}
 use native.Mathlib.Omega.{arith}
 use lib.IntN.{ℤ, pos}
@@ -12,7 +12,9 @@ use Rattle.basics.specs.Integers.{eq_z}
 use Rattle.law.specs.Bytes.{all_of}
 use Rattle.law.specs.Values.{Rec}
 use Rattle.law.specs.Sections.{Shape, header, placements}
-use Rattle.law.specs.Kinds.{kind_at, Role, opening, closing, title, name, lead, position, unknown, role_in}
+use Rattle.law.specs.Kinds.{kind_at, role_in}
+use Rattle.law.specs.declared.Role.{Role}
+use Rattle.law.specs.declared.Role.TheVariants.{Opening as opening, Closing as closing, Title as title, Name as name, Lead as lead, Position as position, Unknown as unknown}
 use Rattle.law.specs.Fits.{text_byte}
 use Rattle.law.specs.declared.Rules.{Rules}
 use Rattle.law.specs.declared.FileType.{FileType}
@@ -33,7 +35,6 @@ use Rattle.order.specs.declared.Phase.{Phase}
 use Rattle.order.specs.declared.Phase.TheVariants.{AwaitTitle as await_title, AwaitName as await_name, HeaderFull as header_full, AwaitLead as await_lead, InPoints as in_points, InProps as in_props, InList as in_list, AwaitPart as await_part, AwaitPosition as await_position}
 use Rattle.order.specs.declared.State.{State}
 use Rattle.order.specs.declared.State.TheVariants.{Between as between, Inside as inside}
-use Rattle.order.specs.declared.Outcome.TheVariants.{Next as next}
 use Rattle.law.specs.Lists.{leads, Line, names_of}
 use Rattle.shown_lists.proofs.Spots.{spot, spot_of, same_same, same_differ}
 use Rattle.shown_lists.proofs.Roles.{is_section, has_points, led_points, lead_first, starts_led}

@@ -3,18 +3,16 @@ use Prim.Native.Nat.{ℕ, zero, suc, ◌+◌, ◌-◌, ◌≤◌}
 use mathlib.Core.Path.{◌≡◌, refl, sym, ap, subst, ◌∙◌}
 use mathlib.Core.List.{List, [], ◌∷◌, ◌++◌, append_assoc}
 use mathlib.Core.Option.{some}
-use mathlib.Core.Bool.{Bool, cond}
+use mathlib.Core.Bool.{Bool}
 use native.Mathlib.Omega.{arith}
-use borrow.Author.Tests.{eq-eqb}
-use lib.Dec.{eqb}
 use lib.IntN.{ℤ, pos}
 use lib.ListN.{length, take, drop, replicate, length-drop, length-append}
 use lib.Seq.{drop-drop, length-take-le}
+use Rattle.std.specs.Prelude.{Result, Ok, Err, Some, None}
+use Rattle.law.specs.declared.refusals.Refusal.{Refusal}
 use Rattle.law.specs.Fields.{Field, field}
-use Rattle.text_fields.specs.FirstField.{field_of}
+use Rattle.text_fields.specs.FirstField.{FirstField, field_of}
 use Rattle.text_fields.specs.Fields.{fields_by, fields_in, fields_of}
-use Rattle.text_fields.specs.declared.FieldAnswer.{FieldAnswer}
-use Rattle.text_fields.specs.declared.FieldAnswer.TheVariants.{Nothing, Got, Broken}
 use Rattle.law.specs.Values.{Value, number, word, text}
 use Rattle.form.specs.Values.{good}
 use Rattle.law.specs.Layouts.{types_of}
@@ -23,7 +21,7 @@ use Rattle.law.specs.declared.Context.{Context}
 use Rattle.law.specs.declared.FieldType.{FieldType}
 use Rattle.form_layouts.specs.Letters.{width_of, widths}
 use Rattle.form_layouts.proofs.KindLaws.{nine}
-use Rattle.line_rows.specs.Rows.{entry_of, entry_by, entry_at, put_one, put_entry, begun, fill_from, filled}
+use Rattle.line_rows.specs.Rows.{entry_as, entry_by, entry_at, put_one, put_entry, put_next, begun, onward, fill_from, filled}
 use Rattle.line_rows.specs.declared.Filling.{Filling}
 use Rattle.line_rows.proofs.LookLaws.{got_lies, some_before}
 use Rattle.line_rows.proofs.RowMeaning.{Stands, stands_one}
@@ -47,7 +45,7 @@ abbrev spot_at : ℕ → Bool → List ℕ → Spot
 spot_at a q u = record { at = a; what = field q u }
 
 stands_more : (b : ℕ) (cs : List ℤ) (n k m : ℕ) (f : Filling) (a l : ℕ) (q : Bool) (u : List ℕ) (j : ℕ) (v : Value) → length u ≡ l → Stands cs k m f → length (columns_of v (spot_at (b + a) q u)) + n ≡ k
-    → Stands (cs ++ columns_of v (spot_at (b + a) q u)) n j (put_entry b f (entry_of a l j (good v)))
+    → Stands (cs ++ columns_of v (spot_at (b + a) q u)) n j (put_entry b f (entry_as a l j v))
 stands_more b cs n k m f a l q u j (number z) lu x e =
     let h : suc n ≡ k = omega arith in
     stands_one cs n m f z j (rw h x)
@@ -72,47 +70,48 @@ filled_more cs ds es row n k e r = record {
   room = omega (arith, e, r.room, length-append ds es);
 }
 
-module _ (c : Context) (b : ℕ) (s : List ℕ) where
-  abbrev onward : List FieldType → Filling → Filling
-  onward ts g = cond (eqb g.refused 0) (fill_from c b s ts g) g
+-- no field was refused, and the row is that
+abbrev pub FilledAs : List ℤ → ℕ → List ℤ → Result Filling Refusal → Type 0
+FilledAs cs n ds x = (g : Filling) × (x ≡ Ok g) × Filled cs n ds g.row
 
+module _ (c : Context) (b : ℕ) (s : List ℕ) where
   fills : {ts : List FieldType} {vs : List Value} {fs : List Field} → SpellsFields c ts vs fs → (fuel : ℕ) (cs : List ℤ) (n m : ℕ) (f : Filling)
-      → Stands cs n m f → widths ts ≤ n → fields_in fuel (drop m s) ≡ some fs → Filled cs n (columns_of_all vs (spots_in fuel (b + m) (drop m s))) (fill_from c b s ts f).row
+      → Stands cs n m f → widths ts ≤ n → fields_in fuel (drop m s) ≡ some fs → FilledAs cs n (columns_of_all vs (spots_in fuel (b + m) (drop m s))) (fill_from c b s ts f)
   unfolding fields_in fill_from entry_at widths spots_in columns_of_all
-  fills no_fields fuel cs n m f st w e = record { left = n; is = st.row; room = omega arith }
+  fills no_fields fuel cs n m f st w e = (f, refl, record { left = n; is = st.row; room = omega arith })
   fills (more x xs) zero cs n m f st w e = absurd (none_some e)
   fills (more {t = t} {ts = ts} {v = v} {vs = vs} {f = fl} {fs = fs} x xs) (suc fuel) cs n m f st w e =
-      subst (λ (u : ℕ). Filled cs n (columns_of_all (v ∷ vs) (spots_in (suc fuel) (b + m) (drop m s))) (onward ts (put_entry b f (entry_at c t u s))).row) (sym st.place)
+      subst (λ (u : ℕ). FilledAs cs n (columns_of_all (v ∷ vs) (spots_in (suc fuel) (b + m) (drop m s))) (onward (put_next b f (entry_at c t u s)) (fill_from c b s ts))) (sym st.place)
       (go (field_of (drop m s)) refl e (fills xs fuel))
     where
-      go : (y : FieldAnswer) → field_of (drop m s) ≡ y → fields_by y (drop m s) (λ j. fields_in fuel (drop j (drop m s))) ≡ some (fl ∷ fs)
-          → ((ds : List ℤ) (k j : ℕ) (g : Filling) → Stands ds k j g → widths ts ≤ k → fields_in fuel (drop j s) ≡ some fs → Filled ds k (columns_of_all vs (spots_in fuel (b + j) (drop j s))) (fill_from c b s ts g).row)
-          → Filled cs n (columns_of_all (v ∷ vs) (spots_by y (b + m) (drop m s) (λ j. spots_in fuel (b + m + j) (drop j (drop m s))))) (onward ts (put_entry b f (entry_by c t m (drop m s) y))).row
-      go Nothing i h ih = let z : ◌≡◌ {A = ℕ} 0 1 = cc in absurd (omega arith)
-      go Broken i h ih = absurd (none_some h)
-      go (Got a l q j) i h ih =
+      go : (y : FirstField) → field_of (drop m s) ≡ y → fields_by y (drop m s) (λ j. fields_in fuel (drop j (drop m s))) ≡ some (fl ∷ fs)
+          → ((ds : List ℤ) (k j : ℕ) (g : Filling) → Stands ds k j g → widths ts ≤ k → fields_in fuel (drop j s) ≡ some fs → FilledAs ds k (columns_of_all vs (spots_in fuel (b + j) (drop j s))) (fill_from c b s ts g))
+          → FilledAs cs n (columns_of_all (v ∷ vs) (spots_by y (b + m) (drop m s) (λ j. spots_in fuel (b + m + j) (drop j (drop m s))))) (onward (put_next b f (entry_by c t m (drop m s) y)) (fill_from c b s ts))
+      go (Ok None) i h ih = let z : ◌≡◌ {A = ℕ} 0 1 = cc in absurd (omega arith)
+      go (Err o) i h ih = absurd (none_some h)
+      go (Ok (Some fd)) i h ih =
           let d = length-drop m s in
-          let r = got_lies (drop m s) a l q j i in
-          let u : List ℕ = take l (drop a (drop m s)) in
-          let g = some_before (field q u) (fields_in fuel (drop j (drop m s))) (fl ∷ fs) h in
-          let y : fl ≡ field q u = let z = g.2 in cc in
+          let r = got_lies (drop m s) fd i in
+          let u : List ℕ = take fd.len (drop fd.start (drop m s)) in
+          let g = some_before (field fd.quoted u) (fields_in fuel (drop fd.next (drop m s))) (fl ∷ fs) h in
+          let y : fl ≡ field fd.quoted u = let z = g.2 in cc in
           let o : fs ≡ g.0 = let z = g.2 in cc in
-          let lu : length u ≡ l = length-take-le l (drop a (drop m s)) (omega (arith, length-drop a (drop m s), r.within, r.inside)) in
-          let p : Spot = spot_at (b + (m + a)) q u in
+          let lu : length u ≡ fd.len = length-take-le fd.len (drop fd.start (drop m s)) (omega (arith, length-drop fd.start (drop m s), r.within, r.inside)) in
+          let p : Spot = spot_at (b + (m + fd.start)) fd.quoted u in
           let k = n - width_of t in
           let z : length (columns_of v p) + k ≡ n = omega (arith, value_wide p x, w) in
-          let rd : read_field c t (field q u) ≡ good v = rw (sym y) (field_complete x) in
-          let st' = stands_more b cs k n m f (m + a) l q u (m + j) v lu st z in
-          let fl' : Filling = put_entry b f (entry_of (m + a) l (m + j) (good v)) in
-          let v' : fields_in fuel (drop (m + j) s) ≡ some fs = rw (sym (drop-drop j m s)) (g.1 ∙ ap some (sym o)) in
-          let ft = ih (cs ++ columns_of v p) k (m + j) fl' st' (omega (arith, w)) v' in
-          let ba : b + m + a ≡ b + (m + a) = omega arith in
-          let bj : b + m + j ≡ b + (m + j) = omega arith in
-          let res : Filled cs n (columns_of v p ++ columns_of_all vs (spots_in fuel (b + (m + j)) (drop (m + j) s))) (fill_from c b s ts fl').row = filled_more cs (columns_of v p) _ _ k n z ft in
-          rw (rd, ba, bj, drop-drop j m s) (rw (eq-eqb fl'.refused 0 st'.fine) res)
+          let rd : read_field c t (field fd.quoted u) ≡ good v = rw (sym y) (field_complete x) in
+          let st' = stands_more b cs k n m f (m + fd.start) fd.len fd.quoted u (m + fd.next) v lu st z in
+          let fl' : Filling = put_entry b f (entry_as (m + fd.start) fd.len (m + fd.next) v) in
+          let v' : fields_in fuel (drop (m + fd.next) s) ≡ some fs = rw (sym (drop-drop fd.next m s)) (g.1 ∙ ap some (sym o)) in
+          let ft = ih (cs ++ columns_of v p) k (m + fd.next) fl' st' (omega (arith, w)) v' in
+          let ba : b + m + fd.start ≡ b + (m + fd.start) = omega arith in
+          let bj : b + m + fd.next ≡ b + (m + fd.next) = omega arith in
+          let res : FilledAs cs n (columns_of v p ++ columns_of_all vs (spots_in fuel (b + (m + fd.next)) (drop (m + fd.next) s))) (fill_from c b s ts fl') = (ft.0, ft.1, filled_more cs (columns_of v p) _ _ k n z ft.2) in
+          rw (rd, ba, bj, drop-drop fd.next m s) res
 
   -- the whole row
   pub row_fills : (k m : ℕ) (fs : List Field) (vs : List Value) → fields_of (drop m s) ≡ some fs → read_fields c (types_of c.rules k) fs ≡ good vs
-      → Filled (pos k ∷ []) 9 (columns_of_all vs (spots_in (suc (length (drop m s))) (b + m) (drop m s))) (filled c k b s m).row
+      → FilledAs (pos k ∷ []) 9 (columns_of_all vs (spots_in (suc (length (drop m s))) (b + m) (drop m s))) (filled c k b s m)
   unfolding fields_of filled
-  row_fills k m fs vs e r = fills (values_sound (types_of c.rules k) fs r) (suc (length (drop m s))) (pos k ∷ []) 9 m (begun k m) (record { row = refl; column = refl; place = refl; fine = refl }) (nine c.rules k) e
+  row_fills k m fs vs e r = fills (values_sound (types_of c.rules k) fs r) (suc (length (drop m s))) (pos k ∷ []) 9 m (begun k m) (record { row = refl; column = refl; place = refl }) (nine c.rules k) e

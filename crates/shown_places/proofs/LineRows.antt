@@ -8,15 +8,17 @@ use native.Mathlib.Omega.{arith}
 use lib.Dec.{eqb}
 use lib.IntN.{ℤ, pos}
 use lib.ListN.{length, take, drop, replicate, length-drop, length-append, length-replicate}
+use Rattle.std.specs.Prelude.{Result, Ok, Err, Some, None, Ok as next, Err as stops}
+use Rattle.law.specs.declared.refusals.Refusal.{Refusal}
+use Rattle.law.specs.declared.refusals.Refusal.TheVariants.{Misplaced, FieldCount}
 use Rattle.law.specs.Fields.{Field, field}
-use Rattle.text_fields.specs.FirstField.{field_of}
+use Rattle.text_fields.specs.FirstField.{FirstField, field_of}
 use Rattle.text_fields.specs.Fields.{fields_by, fields_in, fields_of}
-use Rattle.text_fields.specs.declared.FieldAnswer.{FieldAnswer}
-use Rattle.text_fields.specs.declared.FieldAnswer.TheVariants.{Nothing, Got, Broken}
 use Rattle.text_fields.proofs.FieldSpelling.{sound_in}
 use Rattle.law.specs.Values.{Value}
 use Rattle.form.specs.Values.{Reply, good, refused}
-use Rattle.law.specs.Kinds.{prop, role_of}
+use Rattle.law.specs.Kinds.{role_of}
+use Rattle.law.specs.declared.Role.TheVariants.{Prop as prop}
 use Rattle.law.specs.Layouts.{types_of}
 use Rattle.law.specs.Fits.{under}
 use Rattle.form.specs.Reading.{read_fields, Line, free, bad, key_line, data_line, line_as, keyword_of}
@@ -32,8 +34,7 @@ use Rattle.order.specs.Places.{data_kind, key_kind}
 use Rattle.order.specs.Automaton.{is_role, type_at, may_stand, stepped, admit}
 use Rattle.order.specs.declared.State.{State}
 use Rattle.order.specs.declared.State.TheVariants.{Between as between, Inside as inside}
-use Rattle.order.specs.declared.Outcome.{Outcome}
-use Rattle.order.specs.declared.Outcome.TheVariants.{Next as next, Refused as stops}
+use Rattle.order.specs.declared.Reason.{Reason}
 use Rattle.law.specs.RecordSpelling.{SpellsFields, none as no_fields, more}
 use Rattle.shown_spelling.proofs.ValueSpelling.{values_sound}
 use Rattle.rows.specs.Columns.{point_in, type_in_row}
@@ -67,46 +68,53 @@ own_behind b s f fs e =
     let h = places_found b s (f ∷ fs) e in
     go (field_of s) refl e h.spots h.spelled (spots_in_lem h.spelled (suc (length s)) (omega arith))
   where
-    go : (x : FieldAnswer) → field_of s ≡ x → fields_by x s (λ n. fields_in (length s) (drop n s)) ≡ some (f ∷ fs) → (ps : List Spot) → SpelledAt b ps s
+    go : (x : FirstField) → field_of s ≡ x → fields_by x s (λ n. fields_in (length s) (drop n s)) ≡ some (f ∷ fs) → (ps : List Spot) → SpelledAt b ps s
         → spots_by x b s (λ n. spots_in (length s) (b + n) (drop n s)) ≡ ps → Own b s (behind x) fs
-    go Nothing i h ps sp t = let z : ◌≡◌ {A = ℕ} 0 1 = cc in absurd (omega arith)
-    go (Got a l q m) i h ps sp t =
-        let r = got_lies s a l q m i in
-        let d = length-drop m s in
-        let g = some_before (field q (take l (drop a s))) (fields_in (length s) (drop m s)) (f ∷ fs) h in
+    go (Ok None) i h ps sp t = let z : ◌≡◌ {A = ℕ} 0 1 = cc in absurd (omega arith)
+    go (Ok (Some c)) i h ps sp t =
+        let r = got_lies s c i in
+        let d = length-drop c.next s in
+        let g = some_before (field c.quoted (take c.len (drop c.start s))) (fields_in (length s) (drop c.next s)) (f ∷ fs) h in
         let k = g.2 in
         let w : g.0 ≡ fs = cc in
-        let y = placed (b + m) (sound_in (length s) (drop m s) fs (g.1 ∙ ap some w)) in
-        let o : spots_in (length s) (b + m) (drop m s) ≡ y.spots = spots_in_lem y.spelled (length s) (omega (arith, r.past, r.within)) in
+        let y = placed (b + c.next) (sound_in (length s) (drop c.next s) fs (g.1 ∙ ap some w)) in
+        let o : spots_in (length s) (b + c.next) (drop c.next s) ≡ y.spots = spots_in_lem y.spelled (length s) (omega (arith, r.past, r.within)) in
         record {
-          front = record { at = b + a; what = field q (take l (drop a s)) } ∷ [];
+          front = record { at = b + c.start; what = field c.quoted (take c.len (drop c.start s)) } ∷ [];
           own = y.spots;
-          spelled = subst (λ (u : List Spot). SpelledAt b u s) (sym t ∙ ap (λ (u : List Spot). record { at = b + a; what = field q (take l (drop a s)) } ∷ u) o) sp;
+          spelled = subst (λ (u : List Spot). SpelledAt b u s) (sym t ∙ ap (λ (u : List Spot). record { at = b + c.start; what = field c.quoted (take c.len (drop c.start s)) } ∷ u) o) sp;
           are = y.are;
-          found = spots_in_lem y.spelled (suc (length (drop m s))) (omega arith);
+          found = spots_in_lem y.spelled (suc (length (drop c.next s))) (omega arith);
         }
-    go Broken i h ps sp t = absurd (none_some h)
+    go (Err b) i h ps sp t = absurd (none_some h)
 
 pub fields_many : {c : Context} {ts : List FieldType} {vs : List Value} {fs : List Field} → SpellsFields c ts vs fs → length fs ≡ length vs
 fields_many no_fields = refl
 fields_many (more x xs) = ap suc (fields_many xs)
 
+-- the row of a record was filled, and no field was refused
+abbrev Rows : ℕ → List ℕ → ℕ → List Value → Result Filling Refusal → Type 0
+Rows b s k vs x = (g : Filling) × (x ≡ Ok g) × RowOf b s (record { kind = k; values = vs }) g.row
+
 -- a row that was filled from such fields
 row_of : (c : Context) (b : ℕ) (s : List ℕ) (k m : ℕ) (fs : List Field) (vs : List Value) → Own b s m fs → From s m fs → read_fields c (types_of c.rules k) fs ≡ good vs
-    → RowOf b s (record { kind = k; values = vs }) (filled c k b s m).row
+    → Rows b s k vs (filled c k b s m)
 row_of c b s k m fs vs o x e =
     let h = row_fills c b s k m fs vs x.fields e in
-    let i : (filled c k b s m).row ≡ pos k ∷ (columns_of_all vs o.own ++ replicate h.left (pos 0)) = rw o.found at h.is in
-    let j : length (columns_of_all vs o.own) + h.left ≡ 9 = rw o.found at h.room in
-    record {
-      front = o.front;
-      own = o.own;
-      left = h.left;
-      spelled = o.spelled;
-      each = omega (arith, map_many o.own, ap length o.are, fields_many (values_sound (types_of c.rules k) fs e));
-      is = i;
-      ten = ap length i ∙ omega (arith, j, length-append (columns_of_all vs o.own) (replicate h.left (pos 0)), length-replicate h.left (pos 0));
-    }
+    let i : h.0.row ≡ pos k ∷ (columns_of_all vs o.own ++ replicate h.2.left (pos 0)) = rw o.found at h.2.is in
+    let j : length (columns_of_all vs o.own) + h.2.left ≡ 9 = rw o.found at h.2.room in (
+      h.0,
+      h.1,
+      record {
+        front = o.front;
+        own = o.own;
+        left = h.2.left;
+        spelled = o.spelled;
+        each = omega (arith, map_many o.own, ap length o.are, fields_many (values_sound (types_of c.rules k) fs e));
+        is = i;
+        ten = ap length i ∙ omega (arith, j, length-append (columns_of_all vs o.own) (replicate h.2.left (pos 0)), length-replicate h.2.left (pos 0));
+      },
+    )
 
 -- a line that says a record and is judged to have a row has the record's row
 abbrev pub Rowed : ℕ → List ℕ → Said → JudgedLine → Type 0
@@ -115,35 +123,33 @@ Rowed b s (says r t) j = j.found ≡ Row → RowOf b s r j.row
 Rowed b s (wrong n) j = Unit {0}
 
 module _ (v : Rules) (st : State) (s : List ℕ) (b : ℕ) where
-  refused_rowed : (x : Said) (n : ℕ) → Rowed b s x (refused_by st n)
+  refused_rowed : (x : Said) (n : Refusal) → Rowed b s x (refused_by st n)
   refused_rowed nothing n = tt
   refused_rowed (says r t) n = λ h. let z : ◌≡◌ {A = ℕ} 0 1 = cc in absurd (omega arith)
   refused_rowed (wrong m) n = tt
 
-  moved_rowed : (k : ℕ) (vs : List Value) (row : List ℤ) (o p : Outcome) → RowOf b s (record { kind = k; values = vs }) row
+  moved_rowed : (k : ℕ) (vs : List Value) (row : List ℤ) (o p : Result State Reason) → RowOf b s (record { kind = k; values = vs }) row
       → Rowed b s (said_of (record { kind = k; values = vs }) o) (moved_row st row p)
   moved_rowed k vs row (next t) (next u) r = λ h. r
   moved_rowed k vs row (next t) (stops e) r = λ h. let z : ◌≡◌ {A = ℕ} 0 1 = cc in absurd (omega arith)
   moved_rowed k vs row (stops e) p r = tt
 
-  filled_rowed : (k : ℕ) (f : Filling) (a : Reply (List Value)) → ((vs : List Value) → a ≡ good vs → RowOf b s (record { kind = k; values = vs }) f.row)
-      → Rowed b s (said_by v [] st k a) (filled_by v st k f)
+  filled_rowed : (k : ℕ) (x : Result Filling Refusal) (a : Reply (List Value)) → ((vs : List Value) → a ≡ good vs → Rows b s k vs x)
+      → Rowed b s (said_by v [] st k a) (filled_by v st k x)
   unfolding filled_by
-  filled_rowed k f (refused n) g = tt
-  filled_rowed k f (good vs) g = go (eqb f.refused 0)
-    where
-      go : (t : Bool) → Rowed b s (said_of (record { kind = k; values = vs }) (admit v [] st (record { kind = k; values = vs }))) (cond t (moved_row st f.row (stepped v st k (type_in_row f.row) (point_in f.row))) (refused_by st f.refused))
-      go true = moved_rowed k vs f.row (admit v [] st (record { kind = k; values = vs })) (stepped v st k (type_in_row f.row) (point_in f.row)) (g vs refl)
-      go false = refused_rowed (said_of (record { kind = k; values = vs }) (admit v [] st (record { kind = k; values = vs }))) f.refused
+  filled_rowed k x (refused n) g = tt
+  filled_rowed k x (good vs) g =
+      let h = g vs refl in
+      rw h.1 (moved_rowed k vs h.0.row (admit v [] st (record { kind = k; values = vs })) (stepped v st k (type_in_row h.0.row) (point_in h.0.row)) h.2)
 
   kind_rowed : (k n m : ℕ) (gs : List Field) → Own b s m gs → From s m gs → Rowed b s (said_at v [] st k gs) (of_kind v st k s b n m)
   unfolding said_at of_kind
   kind_rowed k n m gs o x = go (may_stand v st k) (eqb n (length (types_of v k)))
     where
       go : (t u : Bool) → Rowed b s (cond t (said_by v [] st k (read_fields (under v (type_at st)) (types_of v k) gs)) (wrong 5))
-          (cond t (cond u (filled_by v st k (filled (under v (type_at st)) k b s m)) (refused_by st 6)) (refused_by st 5))
+          (cond t (cond u (filled_by v st k (filled (under v (type_at st)) k b s m)) (refused_by st FieldCount)) (refused_by st Misplaced))
       go true true = filled_rowed k (filled (under v (type_at st)) k b s m) (read_fields (under v (type_at st)) (types_of v k) gs) (λ vs e. row_of (under v (type_at st)) b s k m gs vs o x e)
-      go true false = refused_rowed (said_by v [] st k (read_fields (under v (type_at st)) (types_of v k) gs)) 6
+      go true false = refused_rowed (said_by v [] st k (read_fields (under v (type_at st)) (types_of v k) gs)) FieldCount
       go false u = tt
 
   data_rowed : (f : Field) (gs : List Field) → fields_of s ≡ some (f ∷ gs)

@@ -12,23 +12,22 @@ use Rattle.law.specs.Lines.{by_10, by_13_10, File, none, last, next, place_behin
 use Rattle.text.specs.Lines.{line_end}
 use Rattle.text.proofs.LineLaws.{lines_first}
 use Rattle.text.proofs.LineSpelling.{end_some, lines_complete, place_behind_lem}
-use Rattle.text_fields.specs.FirstField.{field_of}
-use Rattle.text_fields.specs.declared.FieldAnswer.{FieldAnswer}
-use Rattle.text_fields.specs.declared.FieldAnswer.TheVariants.{Nothing, Got, Broken}
+use Rattle.text_fields.specs.FirstField.{FirstField, field_of}
+use Rattle.std.specs.Prelude.{Some, None, Ok, Err}
 use Rattle.line_rows.proofs.LookLaws.{got_lies}
 use Rattle.viewer.specs.Views.{line_at, next_at, places_by, places_in, places_of}
 use Rattle.law.specs.FieldPlaces.{Spot, SpelledAt, numbers_of}
 use Rattle.shown_places.proofs.Spots.{spots_by, spots_in, spots_in_lem}
 
-numbers_by : (x : FieldAnswer) (b : ℕ) (s : List ℕ) → field_of s ≡ x → (later : ℕ → List Spot) (rest : ℕ → List ℤ) → ((m : ℕ) → rest m ≡ numbers_of (later m))
+numbers_by : (x : FirstField) (b : ℕ) (s : List ℕ) → field_of s ≡ x → (later : ℕ → List Spot) (rest : ℕ → List ℤ) → ((m : ℕ) → rest m ≡ numbers_of (later m))
     → places_by x b rest ≡ numbers_of (spots_by x b s later)
 unfolding numbers_of
-numbers_by Nothing b s e later rest h = refl
-numbers_by (Got a l q m) b s e later rest h =
-    let r = got_lies s a l q m e in
-    let u : length (take l (drop a s)) ≡ l = length-take-le l (drop a s) (omega (arith, length-drop a s, r.within, r.inside)) in
-    rw (u, h m)
-numbers_by Broken b s e later rest h = refl
+numbers_by (Ok None) b s e later rest h = refl
+numbers_by (Ok (Some f)) b s e later rest h =
+    let r = got_lies s f e in
+    let u : length (take f.len (drop f.start s)) ≡ f.len = length-take-le f.len (drop f.start s) (omega (arith, length-drop f.start s, r.within, r.inside)) in
+    rw (u, h f.next)
+numbers_by (Err d) b s e later rest h = refl
 
 numbers_in_lem : (fuel b : ℕ) (s : List ℕ) → places_in fuel b s ≡ numbers_of (spots_in fuel b s)
 unfolding places_in spots_in numbers_of

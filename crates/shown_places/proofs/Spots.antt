@@ -8,11 +8,10 @@ use native.Mathlib.Nat.{not-suc-le-zero}
 use native.Mathlib.Omega.{arith}
 use lib.ListN.{length, take, drop, length-append}
 use Rattle.law.specs.Fields.{Field, field, Spelled}
-use Rattle.text_fields.specs.FirstField.{span, ends_well, field_at, field_of}
+use Rattle.text_fields.specs.FirstField.{FirstField, span, ends_well, field_at, field_of}
 use Rattle.text_fields.specs.Fields.{fields_of}
 use Rattle.law.specs.Fields as rules
-use Rattle.text_fields.specs.declared.FieldAnswer.{FieldAnswer}
-use Rattle.text_fields.specs.declared.FieldAnswer.TheVariants.{Nothing, Got, Broken}
+use Rattle.std.specs.Prelude.{Some, None, Ok, Err}
 use Rattle.text_fields.proofs.FieldSpelling.{Read, read, some_spells, shift, shift_of, fields_sound}
 use Rattle.law.specs.FieldPlaces.{Spot, spot_of, SpelledAt, end, space, last, next}
 
@@ -48,10 +47,10 @@ placed b (rules.next {f = f} {s = s} p r) = let h = placed (b + length s) r in r
 
 -- The fields as they are found
 
-abbrev pub spots_by : FieldAnswer → ℕ → List ℕ → (ℕ → List Spot) → List Spot
-spots_by Nothing b s later = []
-spots_by (Got a l q n) b s later = record { at = b + a; what = field q (take l (drop a s)) } ∷ later n
-spots_by Broken b s later = []
+abbrev pub spots_by : FirstField → ℕ → List ℕ → (ℕ → List Spot) → List Spot
+spots_by (Ok None) b s later = []
+spots_by (Ok (Some f)) b s later = record { at = b + f.start; what = field f.quoted (take f.len (drop f.start s)) } ∷ later f.next
+spots_by (Err e) b s later = []
 
 unfoldable pub spots_in : ℕ → ℕ → List ℕ → List Spot
 spots_in zero b s = []
@@ -62,13 +61,13 @@ unfolding spots_in
 read_step b s t fuel r e = rw (r.is, r.after, r.long) (ap₂ (λ (p : Spot) (ps : List Spot). p ∷ ps) (r.spot b) e)
 
 -- A space in front moves the answer
-shift_by : (x : FieldAnswer) (b : ℕ) (s : List ℕ) (later : ℕ → List ℕ → List Spot) → spots_by (shift x) b (32 ∷ s) (λ n. later (b + n) (drop n (32 ∷ s))) ≡ spots_by x (b + 1) s (λ n. later (b + 1 + n) (drop n s))
-shift_by Nothing b s later = refl
-shift_by (Got a l q m) b s later =
-    let x : b + suc a ≡ b + 1 + a = omega arith in
-    let y : b + suc m ≡ b + 1 + m = omega arith in
+shift_by : (x : FirstField) (b : ℕ) (s : List ℕ) (later : ℕ → List ℕ → List Spot) → spots_by (shift x) b (32 ∷ s) (λ n. later (b + n) (drop n (32 ∷ s))) ≡ spots_by x (b + 1) s (λ n. later (b + 1 + n) (drop n s))
+shift_by (Ok None) b s later = refl
+shift_by (Ok (Some f)) b s later =
+    let x : b + suc f.start ≡ b + 1 + f.start = omega arith in
+    let y : b + suc f.next ≡ b + 1 + f.next = omega arith in
     rw (x, y)
-shift_by Broken b s later = refl
+shift_by (Err e) b s later = refl
 
 -- whatever spells the line is what is found
 pub spots_in_lem : {b : ℕ} {ps : List Spot} {s : List ℕ} → SpelledAt b ps s → (fuel : ℕ) → length s < fuel → spots_in fuel b s ≡ ps

@@ -7,12 +7,13 @@ use mathlib.Core.Bool.{Bool, true, false, cond}
 use native.Mathlib.Omega.{arith}
 use lib.ListN.{length, take, drop}
 use Rattle.basics.proofs.Bools.{none_some}
+use Rattle.law.specs.Refusals.{number_of}
+use Rattle.law.specs.declared.refusals.Refusal.TheVariants.{ForbiddenByte}
 use Rattle.law.specs.Bytes.{permitted, all_of, begins}
 use Rattle.law.specs.Fields.{Field, field}
-use Rattle.text_fields.specs.FirstField.{field_of}
+use Rattle.text_fields.specs.FirstField.{FirstField, field_of}
 use Rattle.text_fields.specs.Fields.{fields_by, fields_in, fields_of}
-use Rattle.text_fields.specs.declared.FieldAnswer.{FieldAnswer}
-use Rattle.text_fields.specs.declared.FieldAnswer.TheVariants.{Nothing, Got, Broken}
+use Rattle.std.specs.Prelude.{Some, None, Ok, Err}
 use Rattle.text_fields.proofs.FieldSpelling.{sound_in, fields_complete}
 use Rattle.form.specs.Reading.{Line, free, bad, key_line, data_line, by_first, by_fields, line_as}
 use Rattle.line_rows.specs.LineKinds.{behind}
@@ -32,22 +33,22 @@ pub from_behind : (s : List ℕ) (f : Field) (fs : List Field) → fields_of s �
 unfolding fields_of fields_in
 from_behind s f fs e = go (field_of s) refl e
   where
-    go : (x : FieldAnswer) → field_of s ≡ x → fields_by x s (λ n. fields_in (length s) (drop n s)) ≡ some (f ∷ fs) → From s (behind x) fs
-    go Nothing i h = let z : ◌≡◌ {A = ℕ} 0 1 = cc in absurd (omega arith)
-    go (Got a l q m) i h =
-        let g = some_before (field q (take l (drop a s))) (fields_in (length s) (drop m s)) (f ∷ fs) h in
+    go : (x : FirstField) → field_of s ≡ x → fields_by x s (λ n. fields_in (length s) (drop n s)) ≡ some (f ∷ fs) → From s (behind x) fs
+    go (Ok None) i h = let z : ◌≡◌ {A = ℕ} 0 1 = cc in absurd (omega arith)
+    go (Ok (Some d)) i h =
+        let g = some_before (field d.quoted (take d.len (drop d.start s))) (fields_in (length s) (drop d.next s)) (f ∷ fs) h in
         let k = g.2 in
         let w : g.0 ≡ fs = cc in
         record {
-          within = omega (arith, (got_lies s a l q m i).within);
-          fields = fields_complete (drop m s) fs (sound_in (length s) (drop m s) fs (g.1 ∙ ap some w));
+          within = omega (arith, (got_lies s d i).within);
+          fields = fields_complete (drop d.next s) fs (sound_in (length s) (drop d.next s) fs (g.1 ∙ ap some w));
         }
-    go Broken i h = absurd (none_some h)
+    go (Err b) i h = absurd (none_some h)
 
 -- What `line_as` answers: 3 or 4; a keyword and the fields behind it; some fields of data
 abbrev pub Listed : List ℕ → Line → Type 0
 Listed s free = Unit {0}
-Listed s (bad n) = (3 ≤ n) × (n ≤ 4)
+Listed s (bad e) = (3 ≤ number_of e) × (number_of e ≤ 4)
 Listed s (key_line w fs) = (f : Field) × (fields_of s ≡ some (f ∷ fs))
 Listed s (data_line fs) = (f : Field) × (gs : List Field) × (fs ≡ f ∷ gs) × (fields_of s ≡ some fs)
 
@@ -64,7 +65,7 @@ pub line_listed : (s : List ℕ) → Listed s (line_as s)
 unfolding line_as
 line_listed s = go (begins 35 s) (all_of permitted s) (fields_of s) refl
   where
-    go : (h c : Bool) (o : Option (List Field)) → fields_of s ≡ o → Listed s (cond h free (cond c (by_fields o) (bad 3)))
+    go : (h c : Bool) (o : Option (List Field)) → fields_of s ≡ o → Listed s (cond h free (cond c (by_fields o) (bad ForbiddenByte)))
     go true c o e = tt
     go false true none e = (omega arith, omega arith)
     go false true (some fs) e = by_first_lem s fs e

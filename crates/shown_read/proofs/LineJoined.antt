@@ -5,18 +5,23 @@ use mathlib.Core.List.{List, [], ◌∷◌}
 use mathlib.Core.Option.{some}
 use mathlib.Core.Bool.{Bool, true, false, cond, ◌&&◌}
 use native.Mathlib.Omega.{arith}
-use borrow.Author.Tests.{eq-eqb, ne_eqb, eqb-true}
+use borrow.Author.Tests.{eqb-true}
 use lib.Dec.{eqb}
 use lib.IntN.{ℤ}
 use lib.ListN.{length}
 use Rattle.rows.specs.Columns.{point_in, type_in_row}
 use Rattle.rows.specs.declared.Point.{Point}
+use Rattle.std.specs.Prelude.{Result, Ok, Err, Ok as next, Err as stops}
+use Rattle.law.specs.Refusals.{number_of}
+use Rattle.law.specs.declared.refusals.Refusal.{Refusal}
+use Rattle.law.specs.declared.refusals.Refusal.TheVariants.{Misplaced, FieldCount}
 use Rattle.law.specs.Fields.{Field}
 use Rattle.text_fields.specs.FirstField.{field_of}
 use Rattle.text_fields.specs.Fields.{fields_of}
 use Rattle.law.specs.Values.{Value, Rec}
 use Rattle.form.specs.Values.{Reply, good, refused}
-use Rattle.law.specs.Kinds.{title, point, prop, role_of}
+use Rattle.law.specs.Kinds.{role_of}
+use Rattle.law.specs.declared.Role.TheVariants.{Title as title, Point as point, Prop as prop}
 use Rattle.law.specs.Layouts.{types_of}
 use Rattle.law.specs.Fits.{under, WellFormed}
 use Rattle.form.specs.Reading.{read_fields, Line, free, bad, key_line, data_line, line_as, keyword_of}
@@ -33,11 +38,10 @@ use Rattle.line_rows.proofs.RowMeaning.{row_means}
 use Rattle.order.specs.Marks.{point_of}
 use Rattle.law.specs.Records.{type_in, names_a_component}
 use Rattle.order.specs.Places.{data_kind, key_kind}
-use Rattle.order.specs.Automaton.{is_role, type_at, may_stand, moved, stepped, unless, advance, admit}
+use Rattle.order.specs.Automaton.{is_role, refusal_of, type_at, may_stand, moved, stepped, unless, advance, admit}
 use Rattle.order.specs.declared.State.{State}
 use Rattle.order.specs.declared.State.TheVariants.{Between as between, Inside as inside}
-use Rattle.order.specs.declared.Outcome.{Outcome}
-use Rattle.order.specs.declared.Outcome.TheVariants.{Next as next, Refused as stops}
+use Rattle.order.specs.declared.Reason.{Reason}
 use Rattle.order.proofs.Steps.{advance_stepped, point_only, title_only}
 use Rattle.shown_spelling.proofs.KeywordLaws.{keyword_is}
 use Rattle.shown_spelling.proofs.RecordSpelling.{record_fits}
@@ -61,7 +65,9 @@ pub record Taken (v : Rules) (file : List ℕ) (r : Rec) (t : State) (j : Judged
   pub holds : Holds file r.kind (types_of v r.kind) j.row r.values
 
 pub record Barred (st : State) (n : ℕ) (j : JudgedLine) : Type 0 where
-  pub found : j.found ≡ Refused n
+  pub refusal : Refusal
+  pub found : j.found ≡ Refused refusal
+  pub number : number_of refusal ≡ n
   pub state : j.state ≡ st
 
 -- a line judged in a state agrees with what it says there
@@ -70,20 +76,20 @@ Joined v file st nothing j = Passed st j
 Joined v file st (says r t) j = Taken v file r t j
 Joined v file st (wrong n) j = Barred st n j
 
-miscounted : (c : Context) (ts : List FieldType) (fs : List Field) → eqb (length fs) (length ts) ≡ false → read_fields c ts fs ≡ refused 6
+miscounted : (c : Context) (ts : List FieldType) (fs : List Field) → eqb (length fs) (length ts) ≡ false → read_fields c ts fs ≡ refused FieldCount
 unfolding read_fields
 miscounted c ts fs h = rw h
 
 free_joined : (v : Rules) (file : List ℕ) (st : State) → Joined v file st (free_in st) (free_by st)
 free_joined v file (between g) = record { found = refl; state = refl }
-free_joined v file (inside g s p) = record { found = refl; state = refl }
+free_joined v file (inside g s p) = record { refusal = Misplaced; found = refl; number = refl; state = refl }
 
 module _ (v : Rules) (st : State) where
   -- where no name is used, a record does what it does names aside
   pub admit_fresh : (r : Rec) → admit v [] st r ≡ advance v st r
   admit_fresh r = go (names_a_component v r.kind) (advance v st r)
     where
-      go : (b : Bool) (o : Outcome) → unless (b && false) o ≡ o
+      go : (b : Bool) (o : Result State Reason) → unless (b && false) o ≡ o
       go true (next t) = refl
       go true (stops e) = refl
       go false (next t) = refl
@@ -114,17 +120,17 @@ module _ (v : Rules) (st : State) where
           → Joined v file st (said_of its (admit v [] st its)) (moved_row st row (stepped v st k (type_in_row row) (point_in row)))
       moved_joined w = rw (row_steps w) (go (stepped v st k (type_in_row row) (point_in row)))
         where
-          go : (o : Outcome) → Joined v file st (said_of its o) (moved_row st row o)
+          go : (o : Result State Reason) → Joined v file st (said_of its o) (moved_row st row o)
           go (next t) = record { found = refl; state = refl; holds = h }
-          go (stops e) = record { found = refl; state = refl }
+          go (stops e) = record { refusal = refusal_of e Misplaced; found = refl; number = refl; state = refl }
 
     -- a line of kind k by its filled row
-    filled_joined : (k : ℕ) → may_stand v st k ≡ true → (f : Filling) (a : Reply (List Value)) → Agrees file k (types_of v k) f a
+    filled_joined : (k : ℕ) → may_stand v st k ≡ true → (x : Result Filling Refusal) (a : Reply (List Value)) → Agrees file k (types_of v k) x a
         → ((vs : List Value) → a ≡ good vs → WellFormed (under v (type_at st)) (record { kind = k; values = vs }))
-        → Joined v file st (said_by v [] st k a) (filled_by v st k f)
+        → Joined v file st (said_by v [] st k a) (filled_by v st k x)
     unfolding filled_by
-    filled_joined k m f (good vs) g w = rw (eq-eqb f.refused 0 g.accepted) (moved_joined k m f.row vs g.holds (w vs refl))
-    filled_joined k m f (refused n) g w = rw (g.is, ne_eqb n 0 g.some) (record { found = refl; state = refl })
+    filled_joined k m x (good vs) (f, i, g) w = rw i (moved_joined k m f.row vs g.holds (w vs refl))
+    filled_joined k m x (refused e) i w = rw i (record { refusal = e; found = refl; number = refl; state = refl })
 
     module _ (s : List ℕ) (b : ℕ) (p : Part file b s) where
       -- and by its fields gs, which stand from the place m on
@@ -135,19 +141,19 @@ module _ (v : Rules) (st : State) where
         where
           fill : may_stand v st k ≡ true → (t : Bool) → eqb n (length (types_of v k)) ≡ t
               → Joined v file st (said_by v [] st k (read_fields (under v (type_at st)) (types_of v k) gs))
-              (cond t (filled_by v st k (filled (under v (type_at st)) k b s m)) (refused_by st 6))
+              (cond t (filled_by v st k (filled (under v (type_at st)) k b s m)) (refused_by st FieldCount))
           fill h true i =
               let u = stands_known v st k h in
               filled_joined k h (filled (under v (type_at st)) k b s m) (read_fields (under v (type_at st)) (types_of v k) gs)
               (row_means (under v (type_at st)) file b s p k m gs x.within x.fields (omega (arith, eqb-true n (length (types_of v k)) i)))
               (λ vs r. record_fits (record_spelled v [] st s k gs vs u (y u) r))
-          fill h false i = rw (miscounted (under v (type_at st)) (types_of v k) gs (rw e at i)) (record { found = refl; state = refl })
+          fill h false i = rw (miscounted (under v (type_at st)) (types_of v k) gs (rw e at i)) (record { refusal = FieldCount; found = refl; number = refl; state = refl })
 
           go : (t : Bool) → may_stand v st k ≡ t
               → Joined v file st (cond t (said_by v [] st k (read_fields (under v (type_at st)) (types_of v k) gs)) (wrong 5))
-              (cond t (cond (eqb n (length (types_of v k))) (filled_by v st k (filled (under v (type_at st)) k b s m)) (refused_by st 6)) (refused_by st 5))
+              (cond t (cond (eqb n (length (types_of v k))) (filled_by v st k (filled (under v (type_at st)) k b s m)) (refused_by st FieldCount)) (refused_by st Misplaced))
           go true h = fill h (eqb n (length (types_of v k))) refl
-          go false h = record { found = refl; state = refl }
+          go false h = record { refusal = Misplaced; found = refl; number = refl; state = refl }
 
       -- a data line with its first field f: a property begins behind it
       data_joined : (f : Field) (gs : List Field) → line_as s ≡ data_line (f ∷ gs) → fields_of s ≡ some (f ∷ gs)
@@ -162,7 +168,7 @@ module _ (v : Rules) (st : State) where
 
       as_joined : (x : Line) → line_as s ≡ x → Listed s x → Joined v file st (said_as v [] st x) (judged_by v st s b (kind_by x (behind (field_of s))))
       as_joined free i y = free_joined v file st
-      as_joined (bad n) i y = record { found = refl; state = refl }
+      as_joined (bad e) i y = record { refusal = e; found = refl; number = refl; state = refl }
       as_joined (key_line w fs) i (f, e) =
           kind_joined (key_kind v (keyword_of w)) (suc (length fs) - 1) (behind (field_of s)) fs (omega arith) (from_behind s f fs e)
           (λ h. rw i (key_behind v w fs (keyword_of w) (keyword_is w) h))

@@ -16,8 +16,8 @@ use Rattle.order.specs.Places.{data_kind, key_kind}
 use Rattle.order.specs.Automaton.{type_at, may_stand, repeats, unless, advance}
 use Rattle.order.specs.declared.State.{State}
 use Rattle.order.specs.declared.State.TheVariants.{Between as between, Inside as inside}
-use Rattle.order.specs.declared.Outcome.{Outcome}
-use Rattle.order.specs.declared.Outcome.TheVariants.{Next as next, Refused as stops}
+use Rattle.order.specs.declared.Reason.{Reason}
+use Rattle.std.specs.Prelude.{Result, Ok as next, Err as stops}
 use Rattle.shown_told.specs.Told.{Said, nothing, says, wrong, free_in, said_of, said_by, said_at, own_fields, said_as, line_says}
 use Rattle.shown_read.proofs.LineJoined.{admit_fresh}
 
@@ -28,7 +28,7 @@ unless_used v used (says r t) = cond (repeats v used r) (wrong 12) (says r t)
 unless_used v used (wrong n) = wrong n
 
 module _ (v : Rules) (used : List Named) (st : State) where
-  of_used : (r : Rec) (b : Bool) (o : Outcome) → repeats v used r ≡ b → said_of r (unless b o) ≡ unless_used v used (said_of r o)
+  of_used : (r : Rec) (b : Bool) (o : Result State Reason) → repeats v used r ≡ b → said_of r (unless b o) ≡ unless_used v used (said_of r o)
   of_used r true (next t) e = rw e
   of_used r false (next t) e = rw e
   of_used r b (stops x) e = refl

@@ -14,7 +14,8 @@ use Rattle.basics.proofs.Bools.{other, both}
 use Rattle.basics.specs.Integers.{eq_z}
 use Rattle.law.specs.Values.{Value, word, Rec}
 use Rattle.law.specs.Sections.{sections}
-use Rattle.law.specs.Kinds.{section_of, line_of, title, point, role_of}
+use Rattle.law.specs.Kinds.{section_of, line_of, role_of}
+use Rattle.law.specs.declared.Role.TheVariants.{Title as title, Point as point}
 use Rattle.law.specs.Layouts.{layout_of, types_of}
 use Rattle.law.specs.Fits.{under, WellFormed}
 use Rattle.law.specs.declared.Rules.{Rules}

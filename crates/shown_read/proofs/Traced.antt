@@ -43,7 +43,7 @@ module _ (file : List ℕ) where
       → Follows file j.state ls (k + 1) t → Follows file st (l ∷ ls) k (trace_by j.found k j.row t)
   follows_one st l ls k j t nothing e p f = rw p.found (skip e (subst (λ (u : State). Follows file u ls (k + 1) t) p.state f))
   follows_one st l ls k j t (says r v) e p f = rw p.found (row e p.holds (subst (λ (u : State). Follows file u ls (k + 1) t) p.state f))
-  follows_one st l ls k j t (wrong n) e p f = rw p.found (stop e)
+  follows_one st l ls k j t (wrong n) e p f = rw (p.found, p.number) (stop e)
 
   follows_end : (w : Walk) → length file ≤ w.at → Follows file w.state (lines_of (drop w.at file)) w.line (trace_at file w)
   follows_end w h = rw (at_end file w.at h, lines_none, trace_end file w h) (done refl refl)

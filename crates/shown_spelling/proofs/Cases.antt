@@ -12,6 +12,7 @@ use Rattle.number.specs.Numbers.{digit_here, to_count, decimals, whole, body, re
 use Rattle.law.specs.Printing.{numeral_of, decimals_of, magnitude_of, sign_of, printed}
 use Rattle.law.specs.Values.{Value, number, word, text, Rec}
 use Rattle.form.specs.Values.{Reply, good, refused}
+use Rattle.law.specs.declared.refusals.Refusal.TheVariants.{Misplaced, WrongWord}
 use Rattle.law.specs.Words.{words_of, same_bytes, word_at, named, is_in, folded}
 use Rattle.law.specs.Sections.{section_names, sections}
 use Rattle.form.specs.Compare.{place_of}
@@ -47,11 +48,11 @@ pub lines :
     (reads plain (T Plain ∷ T Plain ∷ W Units ∷ N L ∷ []) "  R1206 \"10K\" THOU 25" ≡ good (txt "R1206" ∷ txt "10K" ∷ word 1 ∷ number (pos 2_500_000) ∷ []))
     × (reads (keyword (ascii "BOARD_OUTLINE")) (W Owners ∷ []) " .Board_outline  ECAD " ≡ good (word 1 ∷ []))
     × (reads prop (T Plain ∷ T Plain ∷ []) "PROP .a \"#\"" ≡ good (txt ".a" ∷ txt "#" ∷ []))
-    × (reads plain (T Plain ∷ []) "#a" ≡ refused 5)
+    × (reads plain (T Plain ∷ []) "#a" ≡ refused Misplaced)
     × (reads plain (T Plain ∷ []) " #a" ≡ good (txt "#a" ∷ []))
-    × (reads plain (T Plain ∷ []) ".5x" ≡ refused 5)
-    × (reads plain (W Faces ∷ []) "\"TOP\"" ≡ refused 9)
-    × (reads plain (T Reference ∷ []) "\"BOARD\"" ≡ refused 9)
+    × (reads plain (T Plain ∷ []) ".5x" ≡ refused Misplaced)
+    × (reads plain (W Faces ∷ []) "\"TOP\"" ≡ refused WrongWord)
+    × (reads plain (T Reference ∷ []) "\"BOARD\"" ≡ refused WrongWord)
 unfolding read_line line_as begins all_of permitted fields_of fields_in field_of field_at bare_at quoted_at closed_at ends_well span read_fields read_each read_field meaning is_name named is_in barred kept within read_number body whole decimals to_count digit_here words_of place_of same_bytes folded
 lines = (refl, refl, refl, refl, refl, refl, refl, refl)
 

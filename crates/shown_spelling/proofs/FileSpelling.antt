@@ -5,6 +5,7 @@ use mathlib.Core.List.{List, [], ◌∷◌}
 use mathlib.Core.Option.{Option, some}
 use mathlib.Core.Bool.{Bool, true, false, cond}
 use borrow.Author.Tests.{eqb-true}
+use Rattle.law.specs.declared.refusals.Refusal.TheVariants.{ForbiddenByte}
 use Rattle.law.specs.Bytes.{permitted, is_space, all_of, begins, All, none, one}
 use Rattle.law.specs.Fields.{Field, Spelled, end as no_field, space}
 use Rattle.law.specs.Lines.{Free, blank, comment}
@@ -28,7 +29,7 @@ spaces_spell (one {b = b} e a) = rw (eqb-true b 32 e) (space (spaces_spell a))
 
 -- a line that begins with #, or has no field, is read as no record
 module _ (c : Context) (f : Front) (ts : List FieldType) {vs : List Value} where
-  no_record : (hash clean : Bool) (o : Option (List Field)) → o ≡ some [] → fields_by c ts (after f (cond hash free_line (cond clean (by_fields o) (bad 3)))) ≡ good vs → ⊥
+  no_record : (hash clean : Bool) (o : Option (List Field)) → o ≡ some [] → fields_by c ts (after f (cond hash free_line (cond clean (by_fields o) (bad ForbiddenByte)))) ≡ good vs → ⊥
   no_record true clean o e h = refused_good h
   no_record false true o e h = let z : fields_by c ts (after f (by_fields (some []))) ≡ good vs = rw e at h in refused_good z
   no_record false false o e h = refused_good h

@@ -14,6 +14,7 @@ use Rattle.text_fields.specs.Fields.{fields_of}
 use Rattle.text_fields.proofs.FieldSpelling.{fields_sound, fields_complete}
 use Rattle.law.specs.Values.{Value}
 use Rattle.form.specs.Values.{Reply, good, refused}
+use Rattle.law.specs.declared.refusals.Refusal.TheVariants.{Misplaced, ForbiddenByte}
 use Rattle.law.specs.Words.{prop_word, same_bytes, folded}
 use Rattle.law.specs.Layouts.{Front, keyword, prop, plain}
 use Rattle.form.specs.Reading.{read_fields, Line, free, bad, key_line, data_line, by_first, by_fields, line_as, after_prop, after, fields_by, read_line}
@@ -71,7 +72,7 @@ line_by_lem : (s : List ℕ) → LineBy s (line_as s)
 unfolding line_as
 line_by_lem s = go (begins 35 s) refl (all_of permitted s) refl
   where
-    go : (t : Bool) → begins 35 s ≡ t → (u : Bool) → all_of permitted s ≡ u → LineBy s (cond t free (cond u (by_fields (fields_of s)) (bad 3)))
+    go : (t : Bool) → begins 35 s ≡ t → (u : Bool) → all_of permitted s ≡ u → LineBy s (cond t free (cond u (by_fields (fields_of s)) (bad ForbiddenByte)))
     go true h u i = tt
     go false h true i = by_fields_lem s h (all_sound permitted s i) (fields_of s) refl
     go false h false i = tt
@@ -85,10 +86,10 @@ module _ {c : Context} where
       go (good fs) h e = (fs, h, values_sound ts fs e)
       go (refused n) h e = absurd (refused_good e)
 
-  key_sound : (k : List ℕ) {ts : List FieldType} {vs : List Value} {s w : List ℕ} {fs gs : List Field} → KeyLine s w gs → cond (same_bytes (46 ∷ k) w) (good gs) (refused 5) ≡ good fs → SpellsFields c ts vs fs → SpellsLine c (keyword k) ts vs s
+  key_sound : (k : List ℕ) {ts : List FieldType} {vs : List Value} {s w : List ℕ} {fs gs : List Field} → KeyLine s w gs → cond (same_bytes (46 ∷ k) w) (good gs) (refused Misplaced) ≡ good fs → SpellsFields c ts vs fs → SpellsLine c (keyword k) ts vs s
   unfolding folded
   key_sound k {ts} {vs} {s} {w} {fs} {gs} l e r =
-      let g = cond_good 5 (same_bytes (46 ∷ k) w) e in
+      let g = cond_good Misplaced (same_bytes (46 ∷ k) w) e in
       let x : 46 ∷ k ≡ 46 ∷ folded l.v = bytes_true (46 ∷ k) w g.0 ∙ l.folds in
       let y : k ≡ folded l.v = cc in
       let z : fs ≡ gs = cc g.1 in
@@ -100,7 +101,7 @@ module _ {c : Context} where
   prop_sound [] l e r = absurd (refused_good e)
   prop_sound (field true v ∷ gs) l e r = absurd (refused_good e)
   prop_sound {s = s} {fs = fs} (field false v ∷ gs) l e r =
-      let g = cond_good 5 (same_bytes prop_word (folded v)) e in
+      let g = cond_good Misplaced (same_bytes prop_word (folded v)) e in
       let z : fs ≡ gs = cc g.1 in
       with_prop {p = v} {s = s} (any_case (bytes_true prop_word (folded v) g.0)) r (rw z l.spelled) l.clean
 

@@ -1,4 +1,5 @@
 -- A field reads as a number or as too fine exactly where its magnitude, cut, is within the limit.
+use Rattle.std.proofs.Common.{ℤ, Result, Ok, Err}
 use Prim.Native.Nat.{ℕ, ◌+◌, ◌*◌, ◌-◌, ◌/◌, ◌^◌, ◌≤◌}
 use mathlib.Core.Path.{◌≡◌, refl}
 use mathlib.Core.List.{List, [], ◌∷◌, ◌++◌, append_assoc, append-nil}
@@ -9,16 +10,16 @@ use lib.Dec.{leb, eqb}
 use Rattle.basics.proofs.Bools.{and_left, and_right}
 use Rattle.law.specs.Numbers.{is_digit, Numeral, one, more}
 use Rattle.number.specs.Numbers.{digit_here, to_count, decimals, whole, body, read_number}
-use Rattle.number.specs.declared.NumberAnswer.{NumberAnswer}
-use Rattle.number.specs.declared.NumberAnswer.TheVariants.{Count, NotNumber, TooFine}
+use Rattle.number.specs.declared.NumberError.{NumberError}
+use Rattle.number.specs.declared.NumberError.TheVariants.{NotNumber, TooFine}
 use Rattle.number_read.proofs.NumberSpelling.{digit_is, digit_val, digit_of, numeral_first, numeral_body, read_digit}
 use Rattle.law.specs.Magnitudes.{CutDecimals, last, next, CutUnsigned, no_point, with_point, InMagnitude, plain, plus, minus}
 
 -- a number, though it may be too fine
-abbrev pub is_number : NumberAnswer → Bool
-is_number (Count z) = true
-is_number NotNumber = false
-is_number TooFine = true
+abbrev pub is_number : Result ℤ NumberError → Bool
+is_number (Ok z) = true
+is_number (Err NotNumber) = false
+is_number (Err TooFine) = true
 
 -- Complete
 module _ (x : ℕ) where
@@ -53,7 +54,7 @@ magnitude_complete {k} {x} (plus u) = unsigned_number x u false
 magnitude_complete {k} {x} (minus u) = unsigned_number x u true
 
 -- Sound
-cond_number : (t : Bool) (a : NumberAnswer) → is_number (cond t a NotNumber) ≡ true → (t ≡ true) × (is_number a ≡ true)
+cond_number : (t : Bool) (a : Result ℤ NumberError) → is_number (cond t a (Err NotNumber)) ≡ true → (t ≡ true) × (is_number a ≡ true)
 cond_number true a h = (refl, h)
 cond_number false a h = absurd (false≢true h)
 
@@ -84,7 +85,7 @@ module _ (x : ℕ) where
   whole_cut u (b ∷ l) {p} {n} r neg h = go (is_digit b) refl (λ e i. whole_cut u l (more r (digit_of e)) neg i) h
     where
       go : (t : Bool) → is_digit b ≡ t → (is_digit b ≡ true → is_number (whole x u neg (n * 10 + (b - 48)) l) ≡ true → CutUnsigned u x ((p ++ b ∷ []) ++ l))
-          → is_number (cond t (whole x u neg (n * 10 + (b - 48)) l) (cond (eqb b 46 && digit_here l) (decimals x neg false (u / 10) (n * u) l) NotNumber)) ≡ true → CutUnsigned u x (p ++ b ∷ l)
+          → is_number (cond t (whole x u neg (n * 10 + (b - 48)) l) (cond (eqb b 46 && digit_here l) (decimals x neg false (u / 10) (n * u) l) (Err NotNumber))) ≡ true → CutUnsigned u x (p ++ b ∷ l)
       go true e k h = rw append_assoc at (k e h)
       go false e k h =
           let f = cond_number (eqb b 46 && digit_here l) _ h in

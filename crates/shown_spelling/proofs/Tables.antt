@@ -13,8 +13,9 @@ use Rattle.law.specs.Bytes as by
 use Rattle.law.specs.Bytes.{permitted, All, all_of}
 use Rattle.law.specs.Words.{words_of, end_word, same_bytes, is_in, word_at}
 use Rattle.law.specs.Sections.{section_names, SectionForm, sections, nth, section_at}
-use Rattle.law.specs.Kinds as role
-use Rattle.law.specs.Kinds.{Role, role_in, section_of, line_of}
+use Rattle.law.specs.declared.Role.TheVariants as role
+use Rattle.law.specs.Kinds.{role_in, section_of, line_of}
+use Rattle.law.specs.declared.Role.{Role}
 use Rattle.law.specs.Layouts.{Front, keyword, prop, plain, Layout, owner_field, open_word, close_word, front_of, data_layout, line_in, line_by, layout_of}
 use Rattle.law.specs.Fits.{is_empty}
 use Rattle.law.specs.declared.Rules.{Rules}
@@ -141,17 +142,17 @@ sections_named v = leb-true (length (sections v)) (length section_names) (and_ri
 data_front : (r : Role) (ts : List FieldType) → has_field ts ≡ true → good_front (front_of r) ts ≡ true
 unfolding good_front
 data_front r [] h = absurd (false≢true h)
-data_front role.opening (t ∷ ts) h = refl
-data_front role.closing (t ∷ ts) h = refl
-data_front role.title (t ∷ ts) h = refl
-data_front role.name (t ∷ ts) h = refl
-data_front role.lead (t ∷ ts) h = refl
-data_front role.point (t ∷ ts) h = refl
-data_front role.prop (t ∷ ts) h = refl
-data_front role.entry (t ∷ ts) h = refl
-data_front role.part (t ∷ ts) h = refl
-data_front role.position (t ∷ ts) h = refl
-data_front role.unknown (t ∷ ts) h = refl
+data_front role.Opening (t ∷ ts) h = refl
+data_front role.Closing (t ∷ ts) h = refl
+data_front role.Title (t ∷ ts) h = refl
+data_front role.Name (t ∷ ts) h = refl
+data_front role.Lead (t ∷ ts) h = refl
+data_front role.Point (t ∷ ts) h = refl
+data_front role.Prop (t ∷ ts) h = refl
+data_front role.Entry (t ∷ ts) h = refl
+data_front role.Part (t ∷ ts) h = refl
+data_front role.Position (t ∷ ts) h = refl
+data_front role.Unknown (t ∷ ts) h = refl
 
 line_front : (n s : ℕ) (d : SectionForm) (l : Layout) → all_have d ≡ true → line_in n s d ≡ some l → good_front l.front l.types ≡ true
 unfolding good_front

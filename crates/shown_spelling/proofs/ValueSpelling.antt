@@ -1,4 +1,5 @@
 -- A field is read as a value, and the fields of a record as its values, exactly where the rules spell them.
+use Rattle.std.proofs.Common.{ℤ, Option as Maybe, Some, None, Result, Ok, Err}
 use Prim.Native.Nat.{ℕ, suc}
 use mathlib.Core.Path.{◌≡◌, refl, ap}
 use mathlib.Core.List.{List, [], ◌∷◌}
@@ -7,14 +8,14 @@ use mathlib.Core.Bool.{true, false}
 use borrow.Author.Tests.{eq-eqb}
 use lib.Dec.{eqb}
 use lib.ListN.{length}
+use Rattle.law.specs.declared.refusals.Refusal.TheVariants.{WrongWord, FieldCount}
 use Rattle.law.specs.Fields.{Field, field}
 use Rattle.number.specs.Numbers.{read_number}
 use Rattle.number.specs.Integers.{read_integer}
 use Rattle.law.specs.Dates.{is_date}
-use Rattle.number.specs.declared.NumberAnswer.{NumberAnswer}
-use Rattle.number.specs.declared.NumberAnswer.TheVariants.{Count, NotNumber, TooFine}
-use Rattle.number.specs.declared.WholeAnswer.{WholeAnswer}
-use Rattle.number.specs.declared.WholeAnswer.TheVariants.{Whole, NotInteger}
+use Rattle.number.specs.declared.NumberError.{NumberError}
+use Rattle.number.specs.declared.NumberError.TheVariants.{NotNumber, TooFine}
+use Rattle.number.specs.declared.Integer.{Integer}
 use Rattle.number_read.proofs.NumberSpelling.{number_sound, number_complete}
 use Rattle.number_read.proofs.IntegerSpelling.{integer_sound, integer_complete}
 use Rattle.law.specs.Values.{Value, number, word, text}
@@ -45,17 +46,17 @@ module _ {c : Context} where
   field_complete (as_word {l} r) = rw (place_complete (words_differ c.rules l) r)
 
   -- What reads as a value spells it
-  integer_field : {v : Value} (s : List ℕ) (a : WholeAnswer) → read_integer s ≡ a → of_integer a ≡ good v → SpellsField c I v (field false s)
-  integer_field {v} s (Whole z) h e = let p : v ≡ number z.0 = cc in rw p (as_integer (integer_sound s z h))
-  integer_field s NotInteger h e = absurd (refused_good e)
+  integer_field : {v : Value} (s : List ℕ) (a : Maybe Integer) → read_integer s ≡ a → of_integer a ≡ good v → SpellsField c I v (field false s)
+  integer_field {v} s (Some z) h e = let p : v ≡ number z.0 = cc in rw p (as_integer (integer_sound s z h))
+  integer_field s None h e = absurd (refused_good e)
 
-  count_field : {v : Value} (l : Limit) (s : List ℕ) (a : NumberAnswer) → read_number (kept c l) (largest l) s ≡ a → of_count c l a ≡ good v → SpellsField c (N l) v (field false s)
-  count_field {v} l s (Count z) h e =
+  count_field : {v : Value} (l : Limit) (s : List ℕ) (a : Result ℤ NumberError) → read_number (kept c l) (largest l) s ≡ a → of_count c l a ≡ good v → SpellsField c (N l) v (field false s)
+  count_field {v} l s (Ok z) h e =
       let g = cond_good (beyond l) (within c l z) e in
       let p : v ≡ number z = cc g.1 in
       rw p (as_number (number_sound (kept c l) (largest l) s h) g.0)
-  count_field l s NotNumber h e = absurd (refused_good e)
-  count_field l s TooFine h e = absurd (refused_good e)
+  count_field l s (Err NotNumber) h e = absurd (refused_good e)
+  count_field l s (Err TooFine) h e = absurd (refused_good e)
 
   word_field : {v : Value} (l : Words) (s : List ℕ) (o : Option ℕ) → place_of (words_of c.rules l) (folded s) ≡ o → of_place o ≡ good v → SpellsField c (W l) v (field false s)
   word_field l s none h e = absurd (refused_good e)
@@ -64,12 +65,12 @@ module _ {c : Context} where
   pub field_sound : (t : FieldType) (f : Field) {v : Value} → read_field c t f ≡ good v → SpellsField c t v f
   unfolding read_field
   field_sound (T k) (field q s) {v} e =
-      let g = cond_not_good 9 (barred c k (meaning (T k) s)) e in
+      let g = cond_not_good WrongWord (barred c k (meaning (T k) s)) e in
       let p : v ≡ text (meaning (T k) s) = cc g.1 in
       rw p (as_text g.0)
   field_sound D (field true s) e = absurd (refused_good e)
   field_sound D (field false s) {v} e =
-      let g = cond_good 9 (is_date s) e in
+      let g = cond_good WrongWord (is_date s) e in
       let p : v ≡ text s = cc g.1 in
       rw p (as_date g.0)
   field_sound I (field true s) e = absurd (refused_good e)
@@ -107,4 +108,4 @@ module _ {c : Context} where
 
   pub values_sound : (ts : List FieldType) (fs : List Field) {vs : List Value} → read_fields c ts fs ≡ good vs → SpellsFields c ts vs fs
   unfolding read_fields
-  values_sound ts fs e = each_sound ts fs (cond_good 6 (eqb (length fs) (length ts)) e).1
+  values_sound ts fs e = each_sound ts fs (cond_good FieldCount (eqb (length fs) (length ts)) e).1

@@ -2,14 +2,16 @@
 use Prim.Native.Nat.{ℕ}
 use mathlib.Core.Path.{◌≡◌, refl, sym, ap, ◌∙◌}
 use mathlib.Core.List.{List, [], ◌∷◌, ◌++◌}
-use mathlib.Core.Option.{Option, none, some}
+use Rattle.std.specs.Prelude.{Option, Some as some, None as none, Result, Ok as next, Err as refused}
 use mathlib.Core.Bool.{Bool, true, false, cond, ◌&&◌, false≢true}
 use native.Mathlib.Omega.{arith}
 use borrow.Author.Tests.{eqb-true}
 use lib.Dec.{eqb}
 use lib.IntN.{pos}
 use Rattle.law.specs.Values.{Rec}
-use Rattle.law.specs.Kinds.{section_of, Role, opening, closing, title, name, lead, point, prop, entry, part, position, unknown, role_of}
+use Rattle.law.specs.Kinds.{section_of, role_of}
+use Rattle.law.specs.declared.Role.{Role}
+use Rattle.law.specs.declared.Role.TheVariants.{Opening as opening, Closing as closing, Title as title, Name as name, Lead as lead, Point as point, Prop as prop, Entry as entry, Part as part, Position as position, Unknown as unknown}
 use Rattle.law.specs.declared.Rules.{Rules}
 use Rattle.law.specs.declared.FileType.{FileType}
 use Rattle.order_loops.specs.Loops.{loop_after, complete}
@@ -25,11 +27,10 @@ use Rattle.order.specs.declared.Phase.TheVariants.{AwaitTitle as await_title, Aw
 use Rattle.order.specs.declared.State.{State}
 use Rattle.order.specs.declared.State.TheVariants.{Between as between, Inside as inside}
 use Rattle.order.specs.declared.Reason.TheVariants.{Misplaced as misplaced}
-use Rattle.order.specs.declared.Outcome.{Outcome}
-use Rattle.order.specs.declared.Outcome.TheVariants.{Next as next, Refused as refused}
+use Rattle.order.specs.declared.Reason.{Reason}
 use Rattle.law.specs.Lists.{Line}
 use Rattle.basics.proofs.Bools.{both}
-use Rattle.shown_lists.proofs.Roles.{is_role_true}
+use Rattle.order.proofs.Roles.{is_role_true}
 use Rattle.shown_lists.proofs.CompletePoints.{Leads, here, step, in_step}
 use Rattle.shown_lists.proofs.Complete.{permitted_accepted}
 use Rattle.shown_told.proofs.LineComplete.{advanced}
@@ -71,10 +72,10 @@ abbrev apart : State → State
 apart (between g) = between g
 apart (inside g s p) = inside g s (apart_in p)
 
-pub next_same : {a b : State} → next a ≡ next b → a ≡ b
+pub next_same : {a b : State} → ◌≡◌ {A = Result State Reason} (next a) (next b) → a ≡ b
 next_same {a} {b} e = cc
 
-pub refused_next : {e : _} {a : State} → refused e ≡ next a → ⊥
+pub refused_next : {e : Reason} {a : State} → ◌≡◌ {A = Result State Reason} (refused e) (next a) → ⊥
 refused_next {e} {a} h = let z : ◌≡◌ {A = ℕ} 0 1 = cc in omega arith
 
 stands_in_lem : (p : Phase) (a : Role) → stands_in (apart_in p) a ≡ stands_in p a
@@ -161,7 +162,7 @@ module _ (v : Rules) where
   other_apart (inside g s await_position) t r h n = h
 
   -- so the records but for points say where a list leads, the loop aside
-  abbrev after_of : Outcome → State → State
+  abbrev after_of : Result State Reason → State → State
   after_of (next t) st = t
   after_of (refused e) st = st
 
@@ -176,7 +177,7 @@ module _ (v : Rules) where
       go : (b : Bool) → is_point (role_of v r.kind) ≡ b → apart en ≡ walked (apart t) (without_points v rs)
           → apart en ≡ walked (apart st) (cond b (without_points v rs) (r ∷ without_points v rs))
       go true i h = h ∙ ap (λ (x : State). walked x (without_points v rs)) (point_from st t r e (point_true (role_of v r.kind) i)).4
-      go false i h = h ∙ ap (λ (o : Outcome). walked (apart (after_of o (apart st))) (without_points v rs)) (sym (other_apart st t r e (point_false (role_of v r.kind) i)))
+      go false i h = h ∙ ap (λ (o : Result State Reason). walked (apart (after_of o (apart st))) (without_points v rs)) (sym (other_apart st t r e (point_false (role_of v r.kind) i)))
 
   -- an accepted list leads to where its parts meet
   pub accepts_part : (qs ms : List Rec) (st : State) → accepts v st (qs ++ ms) ≡ true → (mid : State) × Leads v st qs mid × (accepts v mid ms ≡ true)
@@ -184,14 +185,14 @@ module _ (v : Rules) where
   accepts_part (r ∷ qs) ms st h = go (accepts_part qs ms) (advance v st r) refl h
     where
       go : ((t : State) → accepts v t (qs ++ ms) ≡ true → (mid : State) × Leads v t qs mid × (accepts v mid ms ≡ true))
-          → (o : Outcome) → advance v st r ≡ o → accepted o (λ t. accepts v t (qs ++ ms)) ≡ true → (mid : State) × Leads v st (r ∷ qs) mid × (accepts v mid ms ≡ true)
+          → (o : Result State Reason) → advance v st r ≡ o → accepted o (λ t. accepts v t (qs ++ ms)) ≡ true → (mid : State) × Leads v st (r ∷ qs) mid × (accepts v mid ms ≡ true)
       go ih (refused e) q h = absurd (false≢true h)
       go ih (next t) q h = let w = ih t h in (w.0, step q w.1, w.2)
 
   pub accepts_one : (r : Rec) (ms : List Rec) (st : State) → accepts v st (r ∷ ms) ≡ true → (t : State) × (advance v st r ≡ next t)
   accepts_one r ms st h = go (advance v st r) refl h
     where
-      go : (o : Outcome) → advance v st r ≡ o → accepted o (λ t. accepts v t ms) ≡ true → (t : State) × (advance v st r ≡ next t)
+      go : (o : Result State Reason) → advance v st r ≡ o → accepted o (λ t. accepts v t ms) ≡ true → (t : State) × (advance v st r ≡ next t)
       go (refused e) q h = absurd (false≢true h)
       go (next t) q h = (t, q)
 

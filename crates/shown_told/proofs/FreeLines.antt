@@ -8,6 +8,8 @@ use native.Mathlib.Omega.{arith}
 use borrow.Author.Tests.{eqb-true}
 use Rattle.basics.proofs.Bools.{cond_both}
 use Rattle.basics.proofs.Lists.{all_complete}
+use Rattle.law.specs.declared.refusals.Refusal.{Refusal}
+use Rattle.law.specs.declared.refusals.Refusal.TheVariants.{ForbiddenByte}
 use Rattle.law.specs.Bytes as by
 use Rattle.law.specs.Bytes.{permitted, is_space, All, all_of, begins}
 use Rattle.law.specs.Fields.{Field, field, Spelled, end, space}
@@ -32,7 +34,7 @@ free_line_lem (blank {l} a) = rw (all_complete permitted (all_map space_permitte
 abbrev Other : Line → Type 0
 Other x = x ≡ free → ⊥
 
-not_bad : {n : ℕ} → Other (bad n)
+not_bad : {n : Refusal} → Other (bad n)
 not_bad {n} e = let z : ◌≡◌ {A = ℕ} 0 1 = cc in omega arith
 
 not_key : {w : List ℕ} {fs : List Field} → Other (key_line w fs)
@@ -66,7 +68,7 @@ module _ {l : List ℕ} where
   unfolding line_as
   line_free = go (begins 35 l) (all_of permitted l) (fields_of l) refl refl
     where
-      go : (h c : Bool) (o : Option (List Field)) → begins 35 l ≡ h → fields_of l ≡ o → cond h free (cond c (by_fields o) (bad 3)) ≡ free → Free l
+      go : (h c : Bool) (o : Option (List Field)) → begins 35 l ≡ h → fields_of l ≡ o → cond h free (cond c (by_fields o) (bad ForbiddenByte)) ≡ free → Free l
       go true c o i f e = hashed l i
       go false true none i f e = absurd (not_bad e)
       go false true (some fs) i f e = by_fields_lem fs (fields_sound l fs f) e

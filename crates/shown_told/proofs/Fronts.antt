@@ -9,8 +9,10 @@ use lib.Dec.{leb, eqb, eqb-suc-zero, eqb-suc-suc}
 use Rattle.rows.proofs.EachKind.{each_kind}
 use Rattle.basics.proofs.Bools.{both, other, not_both, none_some}
 use Rattle.law.specs.Sections.{Shape, header, outline, component, keepout, listing, placements, SectionForm, nth, sections, section_at}
-use Rattle.law.specs.Kinds as role
-use Rattle.law.specs.Kinds.{kind_at, section_of, line_of, Role, opening, point, unknown, data_role, role_in, role_by, role_of, last_kind}
+use Rattle.law.specs.declared.Role.TheVariants as role
+use Rattle.law.specs.Kinds.{kind_at, section_of, line_of, data_role, role_in, role_by, role_of, last_kind}
+use Rattle.law.specs.declared.Role.{Role}
+use Rattle.law.specs.declared.Role.TheVariants.{Opening as opening, Point as point, Unknown as unknown}
 use Rattle.law.specs.Layouts.{Front, keyword, prop, plain, Layout, owner_field, open_word, close_word, front_of, data_layout, line_in, line_by, layout_of, types_of}
 use Rattle.law.specs.declared.Rules.{Rules}
 use Rattle.law.specs.declared.Rules.TheVariants.{Idf3}
@@ -21,38 +23,39 @@ use Rattle.order.specs.declared.Phase.{Phase}
 use Rattle.order.specs.declared.Phase.TheVariants.{AwaitTitle, AwaitName, HeaderFull, AwaitLead, InPoints, InProps, InList, AwaitPart, AwaitPosition}
 use Rattle.order.specs.declared.State.{State}
 use Rattle.order.specs.declared.State.TheVariants.{Between as between, Inside as inside}
-use Rattle.shown_lists.proofs.Roles.{is_section, is_role_true, role_known}
+use Rattle.order.proofs.Roles.{is_role_true}
+use Rattle.shown_lists.proofs.Roles.{is_section, role_known}
 
 -- a keyword opens and closes a section, PROP begins a property, nothing stands before other data
 abbrev pub front_at : Role → ℕ → Front
-front_at role.opening s = keyword (open_word s)
-front_at role.closing s = keyword (close_word s)
-front_at role.title s = plain
-front_at role.name s = plain
-front_at role.lead s = plain
-front_at role.point s = plain
-front_at role.prop s = prop
-front_at role.entry s = plain
-front_at role.part s = plain
-front_at role.position s = plain
-front_at role.unknown s = plain
+front_at role.Opening s = keyword (open_word s)
+front_at role.Closing s = keyword (close_word s)
+front_at role.Title s = plain
+front_at role.Name s = plain
+front_at role.Lead s = plain
+front_at role.Point s = plain
+front_at role.Prop s = prop
+front_at role.Entry s = plain
+front_at role.Part s = plain
+front_at role.Position s = plain
+front_at role.Unknown s = plain
 
 -- a section's data lines have no role that opens or closes it
 abbrev pub is_data : Role → Bool
-is_data a = not (is_role a role.opening) && not (is_role a role.closing)
+is_data a = not (is_role a role.Opening) && not (is_role a role.Closing)
 
 data_front : (a : Role) (s : ℕ) → is_data a ≡ true → front_of a ≡ front_at a s
-data_front role.opening s h = absurd (false≢true h)
-data_front role.closing s h = absurd (false≢true h)
-data_front role.title s h = refl
-data_front role.name s h = refl
-data_front role.lead s h = refl
-data_front role.point s h = refl
-data_front role.prop s h = refl
-data_front role.entry s h = refl
-data_front role.part s h = refl
-data_front role.position s h = refl
-data_front role.unknown s h = refl
+data_front role.Opening s h = absurd (false≢true h)
+data_front role.Closing s h = absurd (false≢true h)
+data_front role.Title s h = refl
+data_front role.Name s h = refl
+data_front role.Lead s h = refl
+data_front role.Point s h = refl
+data_front role.Prop s h = refl
+data_front role.Entry s h = refl
+data_front role.Part s h = refl
+data_front role.Position s h = refl
+data_front role.Unknown s h = refl
 
 -- of roles in turn, each is one of data
 pick_data : (b : Bool) (x y : Role) → is_data x ≡ true → is_data y ≡ true → is_data (cond b x y) ≡ true
@@ -60,12 +63,12 @@ pick_data true x y p q = p
 pick_data false x y p q = q
 
 role_data : (f : Shape) (n : ℕ) → is_data (data_role f n) ≡ true
-role_data header n = pick_data (eqb n 1) role.title _ refl (pick_data (eqb n 2) role.name unknown refl refl)
-role_data outline n = pick_data (eqb n 1) role.lead _ refl (pick_data (eqb n 2) role.point unknown refl refl)
-role_data component n = pick_data (eqb n 1) role.lead _ refl (pick_data (eqb n 2) role.point _ refl (pick_data (eqb n 3) role.prop unknown refl refl))
-role_data keepout n = pick_data (eqb n 1) role.point unknown refl refl
-role_data listing n = pick_data (eqb n 1) role.entry unknown refl refl
-role_data placements n = pick_data (eqb n 1) role.part _ refl (pick_data (eqb n 2) role.position unknown refl refl)
+role_data header n = pick_data (eqb n 1) role.Title _ refl (pick_data (eqb n 2) role.Name unknown refl refl)
+role_data outline n = pick_data (eqb n 1) role.Lead _ refl (pick_data (eqb n 2) role.Point unknown refl refl)
+role_data component n = pick_data (eqb n 1) role.Lead _ refl (pick_data (eqb n 2) role.Point _ refl (pick_data (eqb n 3) role.Prop unknown refl refl))
+role_data keepout n = pick_data (eqb n 1) role.Point unknown refl refl
+role_data listing n = pick_data (eqb n 1) role.Entry unknown refl refl
+role_data placements n = pick_data (eqb n 1) role.Part _ refl (pick_data (eqb n 2) role.Position unknown refl refl)
 
 front_data : (a : Role) (s : ℕ) (o : Option (List FieldType)) (l : Layout) → is_data a ≡ true → data_layout a o ≡ some l → l.front ≡ front_at a s
 front_data a s none l h e = absurd (none_some e)
@@ -73,7 +76,7 @@ front_data a s (some ts) l h e =
     let z : l ≡ record { front = front_of a; types = ts } = cc in
     ap (λ (x : Layout). x.front) z ∙ data_front a s h
 
-role_suc : (f : Shape) (n : ℕ) → role_in f (suc n) ≡ cond (eqb n 8) role.closing (data_role f (suc n))
+role_suc : (f : Shape) (n : ℕ) → role_in f (suc n) ≡ cond (eqb n 8) role.Closing (data_role f (suc n))
 role_suc f n = rw (eqb-suc-zero n, eqb-suc-suc n 8)
 
 front_in : (n s : ℕ) (d : SectionForm) (l : Layout) → line_in n s d ≡ some l → l.front ≡ front_at (role_in d.shape n) s
@@ -82,7 +85,7 @@ front_in zero s d l e =
     ap (λ (x : Layout). x.front) z
 front_in (suc n) s d l e = go (eqb n 8) (role_in d.shape (suc n)) (role_suc d.shape n) e
   where
-    go : (b : Bool) (a : Role) → a ≡ cond b role.closing (data_role d.shape (suc n))
+    go : (b : Bool) (a : Role) → a ≡ cond b role.Closing (data_role d.shape (suc n))
         → cond b (some (record { front = keyword (close_word s); types = [] })) (data_layout a (nth d.lines n)) ≡ some l → l.front ≡ front_at a s
     go true a i e =
         let z : l ≡ record { front = keyword (close_word s); types = [] } = cc in

@@ -3,18 +3,21 @@ use Prim.Native.Nat.{ℕ}
 use mathlib.Core.Path.{◌≡◌, refl, sym, ap, ◌∙◌, subst}
 use mathlib.Core.Logic.{◌⊎◌, inl, inr}
 use mathlib.Core.List.{List, [], ◌∷◌}
-use mathlib.Core.Option.{some}
+use Rattle.std.specs.Prelude.{Some as some}
 use mathlib.Core.Bool.{Bool, true, false, false≢true}
 use native.Mathlib.Omega.{arith}
 use borrow.Author.Tests.{eqb-true, eq-eqb}
 use lib.Dec.{eqb}
+use Rattle.law.specs.declared.refusals.Refusal.TheVariants.{Misplaced}
 use Rattle.law.specs.Fields.{Field, field}
 use Rattle.law.specs.Values.{Rec}
 use Rattle.form.specs.Values.{good}
 use Rattle.law.specs.Sections.{Shape, header, outline, component, keepout, listing, placements}
 use Rattle.law.specs.Words.{prop_word, same_bytes, folded}
-use Rattle.law.specs.Kinds as role
-use Rattle.law.specs.Kinds.{kind_at, section_of, Role, unknown, role_in, role_of}
+use Rattle.law.specs.declared.Role.TheVariants as role
+use Rattle.law.specs.Kinds.{kind_at, section_of, role_in, role_of}
+use Rattle.law.specs.declared.Role.{Role}
+use Rattle.law.specs.declared.Role.TheVariants.{Unknown as unknown}
 use Rattle.law.specs.Layouts.{Front, open_word, close_word}
 use Rattle.form.specs.Reading.{Line, free, bad, key_line, data_line, by_first, after_prop, after, keyword_of}
 use Rattle.law.specs.declared.Rules.{Rules}
@@ -29,7 +32,7 @@ use Rattle.order.specs.declared.Phase.{Phase}
 use Rattle.order.specs.declared.Phase.TheVariants.{AwaitTitle, AwaitName, HeaderFull, AwaitLead, InPoints, InProps, InList, AwaitPart, AwaitPosition}
 use Rattle.order.specs.declared.State.{State}
 use Rattle.order.specs.declared.State.TheVariants.{Between as between, Inside as inside}
-use Rattle.basics.proofs.Bools.{both, not_both, none_some}
+use Rattle.basics.proofs.Bools.{both, not_both}
 use Rattle.shown_lists.proofs.Roles.{is_section, role_known}
 use Rattle.shown_lists.proofs.Tables.{section_at_lem, role_at, laid}
 use Rattle.shown_lists.proofs.ByPlace.{ByPlace, kind_by_lem, kind_by_place}
@@ -45,7 +48,7 @@ use Rattle.shown_told.proofs.Apart.{stands_may}
 use Rattle.shown_told.proofs.Standing.{may_stands}
 use Rattle.shown_told.proofs.Looks.{fronted_after, after_fronted}
 
-props_role : (f : Shape) → has_props f ≡ true → role_in f 3 ≡ role.prop
+props_role : (f : Shape) → has_props f ≡ true → role_in f 3 ≡ role.Prop
 props_role header h = absurd (false≢true h)
 props_role outline h = absurd (false≢true h)
 props_role component h = refl
@@ -56,26 +59,26 @@ props_role placements h = absurd (false≢true h)
 after_prop_lem : (fs gs : List Field) → after_prop fs ≡ good gs → is_prop fs ≡ true
 after_prop_lem [] gs e = absurd (refused_good e)
 after_prop_lem (field true s ∷ fs) gs e = absurd (refused_good e)
-after_prop_lem (field false s ∷ fs) gs e = (cond_good 5 (same_bytes prop_word (folded s)) e).0
+after_prop_lem (field false s ∷ fs) gs e = (cond_good Misplaced (same_bytes prop_word (folded s)) e).0
 
 -- the role of a kind that a data line can have
 record OfData (a : Role) (b : Bool) : Type 0 where
-  not_opening : is_role a role.opening ≡ false
-  not_closing : is_role a role.closing ≡ false
-  by_prop : is_role a role.prop ≡ true → b ≡ true
+  not_opening : is_role a role.Opening ≡ false
+  not_closing : is_role a role.Closing ≡ false
+  by_prop : is_role a role.Prop ≡ true → b ≡ true
 
 of_data : (a : Role) (s : ℕ) (fs gs : List Field) → after (front_at a s) (data_line fs) ≡ good gs → OfData a (is_prop fs)
-of_data role.opening s fs gs e = absurd (refused_good e)
-of_data role.closing s fs gs e = absurd (refused_good e)
-of_data role.title s fs gs e = record { not_opening = refl; not_closing = refl; by_prop = λ h. absurd (false≢true h) }
-of_data role.name s fs gs e = record { not_opening = refl; not_closing = refl; by_prop = λ h. absurd (false≢true h) }
-of_data role.lead s fs gs e = record { not_opening = refl; not_closing = refl; by_prop = λ h. absurd (false≢true h) }
-of_data role.point s fs gs e = record { not_opening = refl; not_closing = refl; by_prop = λ h. absurd (false≢true h) }
-of_data role.prop s fs gs e = record { not_opening = refl; not_closing = refl; by_prop = λ h. after_prop_lem fs gs e }
-of_data role.entry s fs gs e = record { not_opening = refl; not_closing = refl; by_prop = λ h. absurd (false≢true h) }
-of_data role.part s fs gs e = record { not_opening = refl; not_closing = refl; by_prop = λ h. absurd (false≢true h) }
-of_data role.position s fs gs e = record { not_opening = refl; not_closing = refl; by_prop = λ h. absurd (false≢true h) }
-of_data role.unknown s fs gs e = record { not_opening = refl; not_closing = refl; by_prop = λ h. absurd (false≢true h) }
+of_data role.Opening s fs gs e = absurd (refused_good e)
+of_data role.Closing s fs gs e = absurd (refused_good e)
+of_data role.Title s fs gs e = record { not_opening = refl; not_closing = refl; by_prop = λ h. absurd (false≢true h) }
+of_data role.Name s fs gs e = record { not_opening = refl; not_closing = refl; by_prop = λ h. absurd (false≢true h) }
+of_data role.Lead s fs gs e = record { not_opening = refl; not_closing = refl; by_prop = λ h. absurd (false≢true h) }
+of_data role.Point s fs gs e = record { not_opening = refl; not_closing = refl; by_prop = λ h. absurd (false≢true h) }
+of_data role.Prop s fs gs e = record { not_opening = refl; not_closing = refl; by_prop = λ h. after_prop_lem fs gs e }
+of_data role.Entry s fs gs e = record { not_opening = refl; not_closing = refl; by_prop = λ h. absurd (false≢true h) }
+of_data role.Part s fs gs e = record { not_opening = refl; not_closing = refl; by_prop = λ h. absurd (false≢true h) }
+of_data role.Position s fs gs e = record { not_opening = refl; not_closing = refl; by_prop = λ h. absurd (false≢true h) }
+of_data role.Unknown s fs gs e = record { not_opening = refl; not_closing = refl; by_prop = λ h. absurd (false≢true h) }
 
 module _ (v : Rules) (st : State) where
   -- the kind that a line is read as, and its own fields
@@ -109,25 +112,25 @@ module _ (v : Rules) (st : State) where
     key_same w fs b = go (role_of v k) refl b
       where
         go : (a : Role) → role_of v k ≡ a → after (front_at a (section_of v k)) (key_line w fs) ≡ good gs → key_kind v (keyword_of w) ≡ k
-        go role.opening e i =
-            let z : 46 ∷ open_word (section_of v k) ≡ w = bytes_true _ _ (cond_good 5 (same_bytes (46 ∷ open_word (section_of v k)) w) i).0 in
-            subst (λ (x : List ℕ). key_kind v (keyword_of x) ≡ k) z (rw (keyword_at (section_of v k) section_is).0 (sym (kind_by_lem v k refl role.opening refl e)))
-        go role.closing e i =
-            let z : 46 ∷ close_word (section_of v k) ≡ w = bytes_true _ _ (cond_good 5 (same_bytes (46 ∷ close_word (section_of v k)) w) i).0 in
-            subst (λ (x : List ℕ). key_kind v (keyword_of x) ≡ k) z (rw (keyword_at (section_of v k) section_is).1 (sym (kind_by_lem v k refl role.closing refl e)))
-        go role.title e i = absurd (refused_good i)
-        go role.name e i = absurd (refused_good i)
-        go role.lead e i = absurd (refused_good i)
-        go role.point e i = absurd (refused_good i)
-        go role.prop e i = absurd (refused_good i)
-        go role.entry e i = absurd (refused_good i)
-        go role.part e i = absurd (refused_good i)
-        go role.position e i = absurd (refused_good i)
-        go role.unknown e i = absurd (refused_good i)
+        go role.Opening e i =
+            let z : 46 ∷ open_word (section_of v k) ≡ w = bytes_true _ _ (cond_good Misplaced (same_bytes (46 ∷ open_word (section_of v k)) w) i).0 in
+            subst (λ (x : List ℕ). key_kind v (keyword_of x) ≡ k) z (rw (keyword_at (section_of v k) section_is).0 (sym (kind_by_lem v k refl role.Opening refl e)))
+        go role.Closing e i =
+            let z : 46 ∷ close_word (section_of v k) ≡ w = bytes_true _ _ (cond_good Misplaced (same_bytes (46 ∷ close_word (section_of v k)) w) i).0 in
+            subst (λ (x : List ℕ). key_kind v (keyword_of x) ≡ k) z (rw (keyword_at (section_of v k) section_is).1 (sym (kind_by_lem v k refl role.Closing refl e)))
+        go role.Title e i = absurd (refused_good i)
+        go role.Name e i = absurd (refused_good i)
+        go role.Lead e i = absurd (refused_good i)
+        go role.Point e i = absurd (refused_good i)
+        go role.Prop e i = absurd (refused_good i)
+        go role.Entry e i = absurd (refused_good i)
+        go role.Part e i = absurd (refused_good i)
+        go role.Position e i = absurd (refused_good i)
+        go role.Unknown e i = absurd (refused_good i)
 
   -- a data line is read as k; or as a PROP line, where one may stand
   abbrev Read : ℕ → Bool → Type 0
-  Read k b = (data_kind v st b ≡ k) ⊎ ((role_of v (data_kind v st b) ≡ role.prop) × (may_stand v st (data_kind v st b) ≡ true) × (is_role (role_of v k) role.prop ≡ false))
+  Read k b = (data_kind v st b ≡ k) ⊎ ((role_of v (data_kind v st b) ≡ role.Prop) × (may_stand v st (data_kind v st b) ≡ true) × (is_role (role_of v k) role.Prop ≡ false))
 
 module _ (v : Rules) where
   module _ (g : Stage) (s : ℕ) (p : Phase) (k line : ℕ) (e : k ≡ kind_at v s line) where
@@ -135,11 +138,11 @@ module _ (v : Rules) where
     unfolding data_kind
     same_kind b h = rw h (sym e)
 
-  not_points : (g : Stage) (s k line : ℕ) (l : LoopState) → is_section v s ≡ true → is_role (role_of v k) role.prop ≡ false → k ≡ kind_at v s line
+  not_points : (g : Stage) (s k line : ℕ) (l : LoopState) → is_section v s ≡ true → is_role (role_of v k) role.Prop ≡ false → k ≡ kind_at v s line
       → some (point_line (shape_of v s)) ≡ some line → (c : Bool) → has_props (shape_of v s) ≡ c → Read v (inside g s (InPoints l)) k true
   unfolding data_kind may_stand
   not_points g s k line l i n e h true c =
-      let r : role_of v (kind_at v s 3) ≡ role.prop = role_at v s 3 i (omega arith) ∙ props_role (shape_of v s) c in
+      let r : role_of v (kind_at v s 3) ≡ role.Prop = role_at v s 3 i (omega arith) ∙ props_role (shape_of v s) c in
       inr (rw (c, r), rw (c, r, section_at_lem v s 3 i (omega arith), eq-eqb s s refl), n)
   not_points g s k line l i n e h false c = inl (rw c (ap (kind_by v s) h ∙ sym e))
 
@@ -147,8 +150,8 @@ module _ (v : Rules) where
   unfolding may_stand
   data_read (between g) k fs gs m b =
       let d = of_data (role_of v k) (section_of v k) fs gs b in
-      absurd (not_both (both (is_role (role_of v k) role.opening) _ m).0 d.not_opening)
-  data_read (inside g s p) k fs gs m b = go (is_role (role_of v k) role.prop) (is_prop fs) refl refl w.given
+      absurd (not_both (both (is_role (role_of v k) role.Opening) _ m).0 d.not_opening)
+  data_read (inside g s p) k fs gs m b = go (is_role (role_of v k) role.Prop) (is_prop fs) refl refl w.given
     where
       d : OfData (role_of v k) (is_prop fs)
       d = of_data (role_of v k) (section_of v k) fs gs b
@@ -159,13 +162,13 @@ module _ (v : Rules) where
       i : is_section v s ≡ true
       i = subst (λ (x : ℕ). is_section v x ≡ true) (eqb-true (section_of v k) s (both (eqb (section_of v k) s) _ m).0) (role_known v k (stands_known v (inside g s p) k m))
 
-      phase : (p : Phase) → is_role (role_of v k) role.prop ≡ false → k ≡ kind_at v s w.line → line_at (shape_of v s) p false ≡ some w.line → Read v (inside g s p) k true
+      phase : (p : Phase) → is_role (role_of v k) role.Prop ≡ false → k ≡ kind_at v s w.line → line_at (shape_of v s) p false ≡ some w.line → Read v (inside g s p) k true
       phase AwaitTitle n e h = inl (same_kind g s AwaitTitle k w.line e true h)
       phase (AwaitName t) n e h = inl (same_kind g s (AwaitName t) k w.line e true h)
-      phase (HeaderFull t) n e h = absurd (none_some h)
+      phase (HeaderFull t) n e h = cc
       phase AwaitLead n e h = inl (same_kind g s AwaitLead k w.line e true h)
       phase (InPoints l) n e h = not_points g s k w.line l i n e h (has_props (shape_of v s)) refl
-      phase InProps n e h = absurd (none_some h)
+      phase InProps n e h = cc
       phase InList n e h = inl (same_kind g s InList k w.line e true h)
       phase AwaitPart n e h = inl (same_kind g s AwaitPart k w.line e true h)
       phase AwaitPosition n e h = inl (same_kind g s AwaitPosition k w.line e true h)
@@ -173,7 +176,7 @@ module _ (v : Rules) where
       alike : (b : Bool) → line_at (shape_of v s) p b ≡ some w.line → data_kind v (inside g s p) b ≡ k
       alike b h = same_kind g s p k w.line w.kind_is b h
 
-      go : (a b : Bool) → is_role (role_of v k) role.prop ≡ a → is_prop fs ≡ b → line_at (shape_of v s) p a ≡ some w.line → Read v (inside g s p) k b
+      go : (a b : Bool) → is_role (role_of v k) role.Prop ≡ a → is_prop fs ≡ b → line_at (shape_of v s) p a ≡ some w.line → Read v (inside g s p) k b
       go true true x y h = inl (alike true h)
       go true false x y h = absurd (false≢true (sym y ∙ d.by_prop x))
       go false true x y h = phase p x w.kind_is h
@@ -200,7 +203,7 @@ module _ (v : Rules) (rs : List Rec) (st : State) (y : Leads v start rs st) wher
 
   -- read as k, or as a PROP line where one may stand
   abbrev Kinds : Line → ℕ → Type 0
-  Kinds x k = (kind_in v st x ≡ k) ⊎ ((role_of v (kind_in v st x) ≡ role.prop) × (may_stand v st (kind_in v st x) ≡ true) × (is_role (role_of v k) role.prop ≡ false))
+  Kinds x k = (kind_in v st x ≡ k) ⊎ ((role_of v (kind_in v st x) ≡ role.Prop) × (may_stand v st (kind_in v st x) ≡ true) × (is_role (role_of v k) role.Prop ≡ false))
 
   kinds : {fs gs : List Field} {k : ℕ} (x : Line) → x ≡ by_first fs → Suits v rs fs k gs → Kinds x k
   kinds free e s = absurd (refused_good (behind free e s))
@@ -218,7 +221,7 @@ module _ (v : Rules) (rs : List Rec) (st : State) (y : Leads v start rs st) wher
   pub is_of_lem : (fs : List Field) (x : Line) → x ≡ by_first fs → may_stand v st (kind_in v st x) ≡ true → IsOf v rs fs (kind_in v st x) (own_in v st x)
   is_of_lem fs x e m = record { suits = suits fs x e m; prop_first = λ j hs s i. go j i (kinds x e s) }
     where
-      go : (j : ℕ) → role_of v j ≡ role.prop → Kinds x j → j ≡ kind_in v st x
+      go : (j : ℕ) → role_of v j ≡ role.Prop → Kinds x j → j ≡ kind_in v st x
       go j i (inl z) = sym z
       go j i (inr (z, m, n)) = absurd (false≢true (sym n ∙ rw i refl))
 

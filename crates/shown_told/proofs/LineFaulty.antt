@@ -3,17 +3,21 @@ use Prim.Native.Nat.{ℕ}
 use mathlib.Core.Path.{◌≡◌, refl, sym, ap, ◌∙◌, subst}
 use mathlib.Core.Logic.{◌≢◌, ◌⊎◌, inl, inr}
 use mathlib.Core.List.{List, [], ◌∷◌, ◌++◌}
-use mathlib.Core.Option.{Option, none, some}
+use Rattle.std.specs.Prelude.{Option, Some as some, None as none, Result, Ok as next, Err as stops}
 use mathlib.Core.Bool.{Bool, true, false, cond}
 use native.Mathlib.Omega.{arith}
 use lib.Dec.{eqb}
 use lib.ListN.{length}
+use Rattle.law.specs.Refusals.{number_of}
+use Rattle.law.specs.declared.refusals.Refusal.{Refusal}
+use Rattle.law.specs.declared.refusals.Refusal.TheVariants.{Misplaced, FieldCount}
 use Rattle.law.specs.Bytes.{permitted, All}
 use Rattle.law.specs.Fields.{Field, Spelled}
 use Rattle.law.specs.Lines.{Free}
 use Rattle.law.specs.Values.{Value, Rec}
 use Rattle.form.specs.Values.{Reply, good, refused}
-use Rattle.law.specs.Kinds.{role_of, point}
+use Rattle.law.specs.Kinds.{role_of}
+use Rattle.law.specs.declared.Role.TheVariants.{Point as point}
 use Rattle.law.specs.Layouts.{types_of}
 use Rattle.law.specs.Fits.{under, WellFormed}
 use Rattle.form.specs.Reading.{read_fields, Line, free, bad, key_line, data_line, by_first, line_as}
@@ -24,15 +28,13 @@ use Rattle.order_loops.specs.declared.LoopState.{LoopState}
 use Rattle.rows.specs.declared.Point.{Point}
 use Rattle.law.specs.Records.{many_loops, type_in, Named}
 use Rattle.order.specs.Marks.{point_of}
-use Rattle.order.specs.Automaton.{start, role_number, refusal_number, after_point, only_if, moved_by, moved, advance, type_at, may_stand, repeats, noted, unless, admit}
+use Rattle.order.specs.Automaton.{start, is_role, refusal_of, after_point, only_if, moved_in, moved, advance, type_at, may_stand, repeats, noted, unless, admit}
 use Rattle.order.specs.declared.Phase.{Phase}
 use Rattle.order.specs.declared.Phase.TheVariants.{AwaitTitle as await_title, AwaitName as await_name, HeaderFull as header_full, AwaitLead as await_lead, InPoints as in_points, InProps as in_props, InList as in_list, AwaitPart as await_part, AwaitPosition as await_position}
 use Rattle.order.specs.declared.State.{State}
 use Rattle.order.specs.declared.State.TheVariants.{Between as between, Inside as inside}
 use Rattle.order.specs.declared.Reason.{Reason}
 use Rattle.order.specs.declared.Reason.TheVariants.{BadLoop as bad_loop}
-use Rattle.order.specs.declared.Outcome.{Outcome}
-use Rattle.order.specs.declared.Outcome.TheVariants.{Next as next, Refused as stops}
 use Rattle.order.proofs.Steps.{advance_is}
 use Rattle.law.specs.Lists.{Permitted, Distinct, names_of}
 use Rattle.basics.proofs.Bools.{not_both}
@@ -88,12 +90,12 @@ moved_loop v (inside g s p) k t d e h = phase p h
     among true l x h = at_point (loop_after (many_loops s) l d) h
     among false l x h = on (complete l) x h
 
-    phase : (p : Phase) → moved_by g s p (role_number (role_of v k)) t d ≡ stops e → e ≡ bad_loop
+    phase : (p : Phase) → moved_in g s p (role_of v k) t d ≡ stops e → e ≡ bad_loop
     phase await_title h = absurd (refused_next (sym h))
     phase (await_name u) h = absurd (refused_next (sym h))
     phase (header_full u) h = absurd (refused_next (sym h))
     phase await_lead h = absurd (refused_next (sym h))
-    phase (in_points l) h = among (eqb (role_number (role_of v k)) (role_number point)) l _ h
+    phase (in_points l) h = among (is_role (role_of v k) point) l _ h
     phase in_props h = absurd (refused_next (sym h))
     phase in_list h = absurd (refused_next (sym h))
     phase await_part h = absurd (refused_next (sym h))
@@ -182,10 +184,10 @@ module _ (v : Rules) where
               fits : WellFormed (under v (type_at st)) r
               fits = record_fits (record_spelled v used st l k gs vs u (subst (λ (w : Line). Behind v k w gs) (sym i) (kind_behind v st x u)) h)
 
-              go : (b : Bool) (o : Outcome) → repeats v used r ≡ b → advance v st r ≡ o → said_of r (unless b o) ≡ wrong n → Faulty v rs l n
+              go : (b : Bool) (o : Result State Reason) → repeats v used r ≡ b → advance v st r ≡ o → said_of r (unless b o) ≡ wrong n → Faulty v rs l n
               go b (stops q) p a z =
                   let w : q ≡ bad_loop = bad_loop_lem v st r q m fits a in
-                  let t : 11 ≡ n = one_wrong (ap (λ (c : Reason). wrong (refusal_number c 5)) (sym w) ∙ z) in
+                  let t : 11 ≡ n = one_wrong (ap (λ (c : Reason). wrong (number_of (refusal_of c Misplaced))) (sym w) ∙ z) in
                   subst (Faulty v rs l) t (by_11 {r = r} has (λ more d. refused_next (sym a ∙ (moves_on_lem r more d).1)))
               go true (next t) p a z =
                   let w = carries_on v r y a in
@@ -196,23 +198,23 @@ module _ (v : Rules) where
           unfolding said_at
           at_faulty h = go (may_stand v st k) refl (read_fields (under v (type_at st)) (types_of v k) gs) refl h
             where
-              counted : (m : may_stand v st k ≡ true) → ((length gs ≢ length (types_of v k)) × (n ≡ 6)) ⊎ ((length gs ≡ length (types_of v k)) × FaultyFields (under v (titled rs)) (types_of v k) gs n)
-                  → Faulty v rs l n
-              counted m (inl (d, z)) = subst (Faulty v rs l) (sym z) (by_6 (line_of_kind m) d)
-              counted m (inr (d, f)) = by_field (line_of_kind m) d f
+              counted : (m : may_stand v st k ≡ true) (j : Refusal) → ((length gs ≢ length (types_of v k)) × (j ≡ FieldCount)) ⊎ ((length gs ≡ length (types_of v k)) × FaultyFields (under v (titled rs)) (types_of v k) gs (number_of j))
+                  → Faulty v rs l (number_of j)
+              counted m j (inl (d, z)) = subst (λ (e : Refusal). Faulty v rs l (number_of e)) (sym z) (by_6 (line_of_kind m) d)
+              counted m j (inr (d, f)) = by_field (line_of_kind m) d f
 
               go : (b : Bool) → may_stand v st k ≡ b → (a : Reply (List Value)) → read_fields (under v (type_at st)) (types_of v k) gs ≡ a → cond b (said_by v used st k a) (wrong 5) ≡ wrong n → Faulty v rs l n
               go true m (good vs) a z = record_faulty m vs a z
-              go true m (refused j) a z = counted m (fields_fault (under v (titled rs)) (types_of v k) gs n (sym (titled_fields v k gs y m) ∙ a ∙ ap refused (one_wrong z)))
+              go true m (refused j) a z = subst (Faulty v rs l) (one_wrong z) (counted m j (fields_fault (under v (titled rs)) (types_of v k) gs j (sym (titled_fields v k gs y m) ∙ a)))
               go false m a b z = subst (Faulty v rs l) (one_wrong z) (by_5 hf (λ j hs s. not_both (suits_may v rs st y x e s) m))
 
-        bad_free : (j : ℕ) → line_as l ≡ bad j → Free l → ⊥
+        bad_free : (j : Refusal) → line_as l ≡ bad j → Free l → ⊥
         bad_free j e f = let w = free_line_lem f in let z : ◌≡◌ {A = ℕ} 0 1 = cc in omega arith
 
         as_faulty : (x : Line) → line_as l ≡ x → Seen l x → said_as v used st x ≡ wrong n → Faulty v rs l n
         as_faulty free i s h = free_faulty st refl h s
-        as_faulty (bad j) i (inl (z, na)) h = subst (Faulty v rs l) (sym z ∙ one_wrong h) (by_3 (bad_free j i) na)
-        as_faulty (bad j) i (inr (z, a, ns)) h = subst (Faulty v rs l) (sym z ∙ one_wrong h) (by_4 (bad_free j i) a ns)
+        as_faulty (bad j) i (inl (z, na)) h = subst (Faulty v rs l) (ap number_of (sym z) ∙ one_wrong h) (by_3 (bad_free j i) na)
+        as_faulty (bad j) i (inr (z, a, ns)) h = subst (Faulty v rs l) (ap number_of (sym z) ∙ one_wrong h) (by_4 (bad_free j i) a ns)
         as_faulty (key_line w gs) i (fs, hf, e) h = at_faulty (key_line w gs) i fs hf (sym i ∙ e) h
         as_faulty (data_line gs) i (fs, hf, e) h = at_faulty (data_line gs) i fs hf (sym i ∙ e) h
 
@@ -265,8 +267,8 @@ module _ (v : Rules) where
         loop_number : ((more : List Rec) → Permitted v (rs ++ (r ∷ more)) → ⊥) → said_of r (admit v used st r) ≡ wrong 11
         loop_number d = go (repeats v used r) (advance v st r) refl
           where
-            go : (b : Bool) (q : Outcome) → advance v st r ≡ q → said_of r (unless b q) ≡ wrong 11
-            go b (stops q) a = ap (λ (c : Reason). wrong (refusal_number c 5)) (bad_loop_lem v st r q (stands hf o) (fits (line_as l) refl (line_of hf)) a)
+            go : (b : Bool) (q : Result State Reason) → advance v st r ≡ q → said_of r (unless b q) ≡ wrong 11
+            go b (stops q) a = ap (λ (c : Reason). wrong (number_of (refusal_of c Misplaced))) (bad_loop_lem v st r q (stands hf o) (fits (line_as l) refl (line_of hf)) a)
             go b (next t) a = let w = carries_on v r y a in absurd (d w.0 w.1)
 
         name_number : (more : List Rec) → Permitted v (rs ++ (r ∷ more)) → (Distinct v (rs ++ (r ∷ [])) → ⊥) → said_of r (admit v used st r) ≡ wrong 12
@@ -300,7 +302,7 @@ module _ (v : Rules) where
         where
           go : (x : Line) → Seen l x → said_as v used st x ≡ wrong 3
           go free s = absurd (nf s)
-          go (bad j) (inl (z, d)) = ap wrong z
+          go (bad j) (inl (z, d)) = ap (λ (e : Refusal). wrong (number_of e)) z
           go (bad j) (inr (z, a, d)) = absurd (na a)
           go (key_line w hs) (fs, hf, e) = absurd (na hf.clean)
           go (data_line hs) (fs, hf, e) = absurd (na hf.clean)
@@ -312,7 +314,7 @@ module _ (v : Rules) where
           go : (x : Line) → Seen l x → said_as v used st x ≡ wrong 4
           go free s = absurd (nf s)
           go (bad j) (inl (z, d)) = absurd (d a)
-          go (bad j) (inr (z, b, d)) = ap wrong z
+          go (bad j) (inr (z, b, d)) = ap (λ (e : Refusal). wrong (number_of e)) z
           go (key_line w hs) (fs, hf, e) = absurd (ns fs hf.spelled)
           go (data_line hs) (fs, hf, e) = absurd (ns fs hf.spelled)
 
@@ -323,7 +325,7 @@ module _ (v : Rules) where
       faulty_line (by_4 nf a ns) = unquoted nf a ns
       faulty_line (by_5 hf d) = no_kind hf d
       faulty_line (free_5 f i) = rw (free_line_lem f) (free_number st (sym (through_where th) ∙ i))
-      faulty_line (by_6 {k = k} {gs = gs} o d) = said_by_lem o.has o.is (refused 6) (fields_miscounted (under v (titled rs)) (types_of v k) gs d)
-      faulty_line (by_field {n = n} o d f) = said_by_lem o.has o.is (refused n) (fields_refused (under v (titled rs)) d f)
+      faulty_line (by_6 {k = k} {gs = gs} o d) = said_by_lem o.has o.is (refused FieldCount) (fields_miscounted (under v (titled rs)) (types_of v k) gs d)
+      faulty_line (by_field {n = n} o d f) = let r = fields_refused (under v (titled rs)) d f in said_by_lem o.has o.is (refused r.0) r.1 ∙ ap wrong r.2
       faulty_line (by_11 {r = r} h d) = said_record r h.line.has h.line.is h.good ∙ loop_number r h.line.has h.line.is h.good d
       faulty_line (by_12 {r = r} more h p d) = said_record r h.line.has h.line.is h.good ∙ name_number r h.line.has h.line.is h.good more p d

@@ -2,21 +2,23 @@
 use Prim.Native.Nat.{ℕ}
 use mathlib.Core.Path.{◌≡◌, refl, sym, subst}
 use mathlib.Core.List.{List, [], ◌∷◌}
-use mathlib.Core.Option.{Option, none, some}
+use Rattle.std.specs.Prelude.{Option, Some as some, None as none, Result, Ok as next, Err as stops}
 use mathlib.Core.Bool.{Bool, true, false, cond, not, ◌&&◌, ◌||◌, false≢true}
 use native.Mathlib.Omega.{arith}
 use borrow.Author.Tests.{leb-true}
 use lib.Dec.{leb}
 use lib.ListN.{drop}
 use Rattle.basics.proofs.Bytes.{bytes_same}
-use Rattle.basics.proofs.Bools.{both, other, not_both, none_some}
+use Rattle.basics.proofs.Bools.{both, other, not_both}
 use Rattle.law.specs.Fields.{Field, field}
 use Rattle.law.specs.Lines.{Free}
 use Rattle.law.specs.Values.{Value, Rec}
 use Rattle.form.specs.Values.{Reply, good, refused}
 use Rattle.law.specs.Sections.{Shape, header, outline, component, keepout, listing, placements}
-use Rattle.law.specs.Kinds as role
-use Rattle.law.specs.Kinds.{kind_at, section_of, Role, unknown, role_in, role_of}
+use Rattle.law.specs.declared.Role.TheVariants as role
+use Rattle.law.specs.Kinds.{kind_at, section_of, role_in, role_of}
+use Rattle.law.specs.declared.Role.{Role}
+use Rattle.law.specs.declared.Role.TheVariants.{Unknown as unknown}
 use Rattle.law.specs.Layouts.{open_word, close_word, types_of}
 use Rattle.law.specs.Fits.{under}
 use Rattle.form.specs.Reading.{read_fields, Line, free, bad, key_line, data_line, line_as, after_prop, after, read_line, keyword_of}
@@ -32,8 +34,7 @@ use Rattle.order.specs.declared.Phase.TheVariants.{AwaitTitle, AwaitName, Header
 use Rattle.order.specs.declared.Stage.{Stage}
 use Rattle.order.specs.declared.State.{State}
 use Rattle.order.specs.declared.State.TheVariants.{Between as between, Inside as inside}
-use Rattle.order.specs.declared.Outcome.{Outcome}
-use Rattle.order.specs.declared.Outcome.TheVariants.{Next as next, Refused as stops}
+use Rattle.order.specs.declared.Reason.{Reason}
 use Rattle.shown_lists.proofs.Tables.{section_at_lem, role_at, laid}
 use Rattle.law.specs.RecordSpelling.{SpellsRecord}
 use Rattle.shown_spelling.proofs.KeywordLaws.{KeywordIs, keyword_is}
@@ -44,7 +45,7 @@ use Rattle.shown_told.proofs.FreeLines.{line_free}
 
 -- Data lines: the line that a place gives has a role of data, and that of a property only where b says that the line begins with PROP
 abbrev given_by : Shape → Bool → ℕ → Bool
-given_by f b n = leb n 9 && (is_data (role_in f n) && (not (is_role (role_in f n) role.prop) || b))
+given_by f b n = leb n 9 && (is_data (role_in f n) && (not (is_role (role_in f n) role.Prop) || b))
 
 abbrev Given : Shape → Bool → ℕ → Type 0
 Given f b n = given_by f b n ≡ true
@@ -95,10 +96,10 @@ module _ (f : Shape) (b : Bool) where
   given : (p : Phase) (n : ℕ) → line_at f p b ≡ some n → Given f b n
   given AwaitTitle n e = given_at 1 n (first_given f b) e
   given (AwaitName t) n e = given_at 2 n (second_given f b) e
-  given (HeaderFull t) n e = absurd (none_some e)
+  given (HeaderFull t) n e = cc
   given AwaitLead n e = given_at 1 n (first_given f b) e
   given (InPoints l) n e = given_third n (some (point_line f)) (given_at (point_line f) n (point_given f b)) e
-  given InProps n e = given_third n none (λ i. absurd (none_some i)) e
+  given InProps n e = given_third n none (λ i. cc) e
   given InList n e = given_at 1 n (first_given f b) e
   given AwaitPart n e = given_at 1 n (first_given f b) e
   given AwaitPosition n e = given_at 2 n (second_given f b) e
@@ -109,19 +110,19 @@ prop_after [] h = absurd (false≢true h)
 prop_after (field true s ∷ fs) h = absurd (false≢true h)
 prop_after (field false s ∷ fs) h = rw h
 
-role_after : (a : Role) (s : ℕ) (fs : List Field) → is_data a ≡ true → (is_role a role.prop ≡ true → is_prop fs ≡ true)
-    → after (front_at a s) (data_line fs) ≡ good (cond (is_role a role.prop) (drop 1 fs) fs)
-role_after role.opening s fs d h = absurd (false≢true d)
-role_after role.closing s fs d h = absurd (false≢true d)
-role_after role.title s fs d h = refl
-role_after role.name s fs d h = refl
-role_after role.lead s fs d h = refl
-role_after role.point s fs d h = refl
-role_after role.prop s fs d h = prop_after fs (h refl)
-role_after role.entry s fs d h = refl
-role_after role.part s fs d h = refl
-role_after role.position s fs d h = refl
-role_after role.unknown s fs d h = refl
+role_after : (a : Role) (s : ℕ) (fs : List Field) → is_data a ≡ true → (is_role a role.Prop ≡ true → is_prop fs ≡ true)
+    → after (front_at a s) (data_line fs) ≡ good (cond (is_role a role.Prop) (drop 1 fs) fs)
+role_after role.Opening s fs d h = absurd (false≢true d)
+role_after role.Closing s fs d h = absurd (false≢true d)
+role_after role.Title s fs d h = refl
+role_after role.Name s fs d h = refl
+role_after role.Lead s fs d h = refl
+role_after role.Point s fs d h = refl
+role_after role.Prop s fs d h = prop_after fs (h refl)
+role_after role.Entry s fs d h = refl
+role_after role.Part s fs d h = refl
+role_after role.Position s fs d h = refl
+role_after role.Unknown s fs d h = refl
 
 module _ (v : Rules) where
   -- a line of kind k has these fields behind its front
@@ -142,7 +143,7 @@ module _ (v : Rules) where
       let y = both (is_data (role_in (shape_of v s) n)) _ x.1 in
       let l = leb-true n 9 x.0 in
       let e : role_of v (kind_at v s n) ≡ role_in (shape_of v s) n = role_at v s n (kind_section v s n l h) l in
-      rw e (role_after (role_in (shape_of v s) n) _ fs y.0 (λ p. other (not (is_role (role_in (shape_of v s) n) role.prop)) (is_prop fs) (rw p) y.1))
+      rw e (role_after (role_in (shape_of v s) n) _ fs y.0 (λ p. other (not (is_role (role_in (shape_of v s) n) role.Prop)) (is_prop fs) (rw p) y.1))
 
   pub data_known : (st : State) (fs : List Field) → Known (data_kind v st (is_prop fs)) → Behind (data_kind v st (is_prop fs)) (data_line fs) (own_fields v (data_kind v st (is_prop fs)) fs)
   unfolding data_kind
@@ -179,7 +180,7 @@ module _ (v : Rules) where
     unfolding said_at
     at_means k gs b = go (may_stand v st k) (read_fields (under v (type_at st)) (types_of v k) gs) refl refl
       where
-        judged : (r : Rec) (o : Outcome) → admit v used st r ≡ o → SpellsRecord (under v (type_at st)) r l → Means (said_of r o)
+        judged : (r : Rec) (o : Result State Reason) → admit v used st r ≡ o → SpellsRecord (under v (type_at st)) r l → Means (said_of r o)
         judged r (next t) j p = (p, j)
         judged r (stops e) j p = tt
 

@@ -7,6 +7,8 @@ use mathlib.Core.Option.{Option, none, some}
 use mathlib.Core.Bool.{Bool, true, false, cond, false≢true}
 use native.Mathlib.Omega.{arith}
 use borrow.Author.Tests.{not-true}
+use Rattle.law.specs.declared.refusals.Refusal.{Refusal}
+use Rattle.law.specs.declared.refusals.Refusal.TheVariants.{ForbiddenByte, BrokenQuoting, Misplaced}
 use Rattle.law.specs.Bytes.{permitted, All, all_of, begins}
 use Rattle.law.specs.Fields.{Field, field, Spelled}
 use Rattle.law.specs.Lines.{Free, comment}
@@ -29,7 +31,7 @@ use Rattle.law.specs.WordSpelling.{AnyCase, same, small}
 -- what a line's answer says of it
 abbrev pub Seen : List ℕ → Line → Type 0
 Seen l free = Free l
-Seen l (bad n) = ((n ≡ 3) × (All permitted l → ⊥)) ⊎ ((n ≡ 4) × All permitted l × ((fs : List Field) → Spelled fs l → ⊥))
+Seen l (bad n) = ((n ≡ ForbiddenByte) × (All permitted l → ⊥)) ⊎ ((n ≡ BrokenQuoting) × All permitted l × ((fs : List Field) → Spelled fs l → ⊥))
 Seen l (key_line w gs) = (fs : List Field) × HasFields l fs × (line_as l ≡ by_first fs)
 Seen l (data_line gs) = (fs : List Field) × HasFields l fs × (line_as l ≡ by_first fs)
 
@@ -48,11 +50,11 @@ pub line_of : {l : List ℕ} {fs : List Field} → HasFields l fs → line_as l 
 unfolding line_as
 line_of {l} {fs} h = rw (no_hash l h.not_free, all_complete permitted h.clean, fields_complete l fs h.spelled)
 
-never_bad : (w : List ℕ) (fs : List Field) (n : ℕ) (b : Bool) → cond b (key_line (folded w) fs) (data_line (field false w ∷ fs)) ≡ bad n → ⊥
+never_bad : (w : List ℕ) (fs : List Field) (n : Refusal) (b : Bool) → cond b (key_line (folded w) fs) (data_line (field false w ∷ fs)) ≡ bad n → ⊥
 never_bad w fs n true i = let z : ◌≡◌ {A = ℕ} 0 1 = cc in omega arith
 never_bad w fs n false i = let z : ◌≡◌ {A = ℕ} 0 1 = cc in omega arith
 
-pub first_not_bad : (fs : List Field) (n : ℕ) → bad n ≡ by_first fs → ⊥
+pub first_not_bad : (fs : List Field) (n : Refusal) → bad n ≡ by_first fs → ⊥
 first_not_bad [] n e = let z : ◌≡◌ {A = ℕ} 0 1 = cc in omega arith
 first_not_bad (field true w ∷ fs) n e = let z : ◌≡◌ {A = ℕ} 0 1 = cc in omega arith
 first_not_bad (field false w ∷ fs) n e = never_bad w fs n (begins 46 w) (sym e)
@@ -69,7 +71,7 @@ line_seen l = go (begins 35 l) refl (all_of permitted l) refl (fields_of l) refl
     by (key_line w gs) e fs i a s = (fs, record { not_free = not_free e (λ z. let y : ◌≡◌ {A = ℕ} 0 1 = cc in omega arith); clean = a; spelled = s }, e ∙ sym i)
     by (data_line gs) e fs i a s = (fs, record { not_free = not_free e (λ z. let y : ◌≡◌ {A = ℕ} 0 1 = cc in omega arith); clean = a; spelled = s }, e ∙ sym i)
 
-    go : (t : Bool) → begins 35 l ≡ t → (u : Bool) → all_of permitted l ≡ u → (o : Option (List Field)) → fields_of l ≡ o → Seen l (cond t free (cond u (by_fields o) (bad 3)))
+    go : (t : Bool) → begins 35 l ≡ t → (u : Bool) → all_of permitted l ≡ u → (o : Option (List Field)) → fields_of l ≡ o → Seen l (cond t free (cond u (by_fields o) (bad ForbiddenByte)))
     go true h u i o e = line_free (rw h)
     go false h true i none e = inr (refl, all_sound permitted l i, λ fs s. let y = fields_complete l fs s in let z : ◌≡◌ {A = ℕ} 0 1 = cc in omega arith)
     go false h true i (some fs) e = by (by_first fs) (rw (h, i, e)) fs refl (all_sound permitted l i) (fields_sound l fs e)
@@ -103,7 +105,7 @@ after_fronted f (field false s ∷ fs) gs e = go f (begins 46 s) refl e
     go : (f : Front) (b : Bool) → begins 46 s ≡ b → after f (cond b (key_line (folded s) fs) (data_line (field false s ∷ fs))) ≡ good gs → Fronted f (field false s ∷ fs) gs
     go (keyword k) true h e =
         let c = begins_cons 46 s h in
-        let w = cond_good 5 (same_bytes (46 ∷ k) (folded s)) e in
+        let w = cond_good Misplaced (same_bytes (46 ∷ k) (folded s)) e in
         let x : 46 ∷ k ≡ 46 ∷ folded c.0 = bytes_true (46 ∷ k) (folded s) w.0 ∙ ap folded c.1 in
         let y : k ≡ folded c.0 = cc in
         let z : gs ≡ fs = cc w.1 in
@@ -111,7 +113,7 @@ after_fronted f (field false s ∷ fs) gs e = go f (begins 46 s) refl e
     go (keyword k) false h e = absurd (refused_good e)
     go prop true h e = absurd (refused_good e)
     go prop false h e =
-        let w = cond_good 5 (same_bytes prop_word (folded s)) e in
+        let w = cond_good Misplaced (same_bytes prop_word (folded s)) e in
         let z : gs ≡ fs = cc w.1 in
         rw z (with_prop (any_case (bytes_true prop_word (folded s) w.0)))
     go plain true h e = absurd (refused_good e)

@@ -12,8 +12,8 @@ use Rattle.law.specs.declared.Rules.{Rules}
 use Rattle.law.specs.Records.{Named}
 use Rattle.order.specs.Automaton.{start, admit, noted, through, later, onward, run}
 use Rattle.order.specs.declared.State.{State}
-use Rattle.order.specs.declared.Outcome.{Outcome}
-use Rattle.order.specs.declared.Outcome.TheVariants.{Next as next, Refused as stops}
+use Rattle.order.specs.declared.Reason.{Reason}
+use Rattle.std.specs.Prelude.{Result, Ok as next, Err as stops}
 use Rattle.shown_lists.proofs.FirstLine.{later_through, accepted_exactly, through_viable}
 use Rattle.law.specs.LineSpelling.{SpellsLines, outside, end}
 use Rattle.shown_told.specs.Told.{wrong, line_says, broken, told_from}
@@ -34,7 +34,7 @@ module _ (v : Rules) where
   run_front [] ms used st en h = (st, refl)
   run_front (r ∷ rs) ms used st en h = go (admit v used st r) (λ t. run_front rs ms (noted v used r) t en) h
     where
-      go : (o : Outcome) → ((t : State) → run v (noted v used r) t (rs ++ ms) ≡ through en → (mid : State) × (run v (noted v used r) t rs ≡ through mid))
+      go : (o : Result State Reason) → ((t : State) → run v (noted v used r) t (rs ++ ms) ≡ through en → (mid : State) × (run v (noted v used r) t rs ≡ through mid))
           → onward o (λ t. run v (noted v used r) t (rs ++ ms)) ≡ through en → (mid : State) × (onward o (λ t. run v (noted v used r) t rs) ≡ through mid)
       go (stops e) ih h = let z : ◌≡◌ {A = ℕ} 0 1 = cc in absurd (omega arith)
       go (next t) ih h = let w = ih t (later_through v _ en h) in (w.0, ap later w.1)

@@ -3,7 +3,7 @@ use Prim.Native.Nat.{ℕ}
 use mathlib.Core.Path.{◌≡◌, refl, sym, ap, ◌∙◌, subst}
 use mathlib.Core.Logic.{◌≢◌}
 use mathlib.Core.List.{List, [], ◌∷◌, ◌++◌, append-nil}
-use mathlib.Core.Option.{some}
+use Rattle.std.specs.Prelude.{Some as some, Result, Ok as next, Err as refused}
 use mathlib.Core.Bool.{Bool, true, false, cond, ◌&&◌, ◌||◌, false≢true}
 use native.Mathlib.Omega.{arith}
 use borrow.Author.Tests.{eqb-true}
@@ -11,7 +11,9 @@ use lib.Dec.{eqb}
 use lib.IntN.{ℤ, pos}
 use Rattle.law.specs.Values.{Rec}
 use Rattle.law.specs.Sections.{Shape, header, outline, component, keepout, listing, placements}
-use Rattle.law.specs.Kinds.{kind_at, section_of, Role, opening, closing, title, name, lead, point, prop, entry, part, position, unknown, role_of}
+use Rattle.law.specs.Kinds.{kind_at, section_of, role_of}
+use Rattle.law.specs.declared.Role.{Role}
+use Rattle.law.specs.declared.Role.TheVariants.{Opening as opening, Closing as closing, Title as title, Name as name, Lead as lead, Point as point, Prop as prop, Entry as entry, Part as part, Position as position, Unknown as unknown}
 use Rattle.law.specs.Fits.{under, well_formed}
 use Rattle.law.specs.declared.Rules.{Rules}
 use Rattle.law.specs.declared.FileType.{FileType}
@@ -33,13 +35,13 @@ use Rattle.order.specs.declared.Phase.TheVariants.{AwaitTitle as await_title, Aw
 use Rattle.order.specs.declared.State.{State}
 use Rattle.order.specs.declared.State.TheVariants.{Between as between, Inside as inside}
 use Rattle.order.specs.declared.Reason.TheVariants.{Misplaced as misplaced}
-use Rattle.order.specs.declared.Outcome.{Outcome}
-use Rattle.order.specs.declared.Outcome.TheVariants.{Next as next, Refused as refused}
+use Rattle.order.specs.declared.Reason.{Reason}
 use Rattle.law.specs.Lists.{Line, Permitted}
 use Rattle.basics.proofs.Bools.{both}
 use Rattle.basics.proofs.Integers.{eq_z_same, eq_z_differ}
 use Rattle.shown_lists.proofs.Spots.{spot_of, same_same, same_differ}
-use Rattle.shown_lists.proofs.Roles.{is_section, is_role_true, has_points}
+use Rattle.order.proofs.Roles.{is_role_true}
+use Rattle.shown_lists.proofs.Roles.{is_section, has_points}
 use Rattle.shown_lists.proofs.Samples.{sample, sample_line, origin_at, origin_line, elsewhere}
 use Rattle.shown_lists.proofs.Names.{letters, letters_text}
 use Rattle.shown_lists.proofs.ByPlace.{kind_by_lem}
@@ -64,17 +66,17 @@ FreshIn in_list = Unit {0}
 FreshIn await_part = Unit {0}
 FreshIn await_position = Unit {0}
 
-abbrev Fresh : Outcome → Type 0
+abbrev Fresh : Result State Reason → Type 0
 Fresh (next (between g)) = Unit {0}
 Fresh (next (inside g s p)) = FreshIn p
 Fresh (refused e) = Unit {0}
 
-fresh_fit : (b f : Bool) (x y : Outcome) → Fresh x → Fresh y → Fresh (if_fit b f x y)
+fresh_fit : (b f : Bool) (x y : Result State Reason) → Fresh x → Fresh y → Fresh (if_fit b f x y)
 fresh_fit true true x y p q = p
 fresh_fit true false x y p q = tt
 fresh_fit false f x y p q = q
 
-fresh_only : (b : Bool) (x : Outcome) → Fresh x → Fresh (only_if b x)
+fresh_only : (b : Bool) (x : Result State Reason) → Fresh x → Fresh (only_if b x)
 fresh_only true x h = h
 fresh_only false x h = tt
 
@@ -114,7 +116,7 @@ one_next : (a : Bool) (x : State) → a ≡ true → (t : State) × (if_fit a tr
 one_next true x h = (x, refl)
 one_next false x h = absurd (false≢true h)
 
-closed_next : (a b c : Bool) (x y : State) (o : Outcome) → a ≡ false → (a || b || c) ≡ true
+closed_next : (a b c : Bool) (x y : State) (o : Result State Reason) → a ≡ false → (a || b || c) ≡ true
     → (t : State) × (if_fit a true o (if_fit b true (only_if true (next x)) (if_fit c true (only_if true (next y)) (refused misplaced))) ≡ next t)
 closed_next true b c x y o n h = absurd (false≢true (sym n))
 closed_next false b c x y o n h = or_next b c x y h

@@ -1,8 +1,9 @@
 -- The file's type in a state is the one in the title line, wherever a field depends on it.
+use Rattle.std.proofs.Common.{Result, Ok, Err}
 use Prim.Native.Nat.{ℕ}
 use mathlib.Core.Path.{◌≡◌, refl, sym, ap, ◌∙◌, subst}
 use mathlib.Core.List.{List, [], ◌∷◌}
-use mathlib.Core.Option.{Option, none, some}
+use Rattle.std.specs.Prelude.{Option, Some as some, None as none, Ok as next, Err as refused}
 use mathlib.Core.Bool.{Bool, true, false, cond, ◌&&◌, ◌||◌, false≢true}
 use borrow.Author.Tests.{eqb-true}
 use lib.Dec.{eqb}
@@ -11,14 +12,16 @@ use Rattle.law.specs.Fields.{Field, field}
 use Rattle.law.specs.Values.{Rec}
 use Rattle.form.specs.Values.{refused}
 use Rattle.law.specs.Sections.{Shape, header, outline, component, keepout, listing, placements}
-use Rattle.law.specs.Kinds.{section_of, Role, opening, closing, title, name, lead, point, prop, entry, part, position, role_of}
+use Rattle.law.specs.Kinds.{section_of, role_of}
+use Rattle.law.specs.declared.Role.{Role}
+use Rattle.law.specs.declared.Role.TheVariants.{Opening as opening, Closing as closing, Title as title, Name as name, Lead as lead, Point as point, Prop as prop, Entry as entry, Part as part, Position as position}
 use Rattle.law.specs.Layouts.{types_of}
 use Rattle.law.specs.Fits.{under, kept, largest, within, well_formed, barred}
 use Rattle.form.specs.Reading.{of_count, read_field, read_each, read_fields}
 use Rattle.number.specs.Numbers.{read_number}
 use Rattle.law.specs.Limits.{most_decimals}
-use Rattle.number.specs.declared.NumberAnswer.{NumberAnswer}
-use Rattle.number.specs.declared.NumberAnswer.TheVariants.{Count, NotNumber, TooFine}
+use Rattle.number.specs.declared.NumberError.{NumberError}
+use Rattle.number.specs.declared.NumberError.TheVariants.{NotNumber, TooFine}
 use Rattle.law.specs.declared.Rules.{Rules}
 use Rattle.law.specs.declared.Limit.{Limit}
 use Rattle.law.specs.declared.Limit.TheVariants.{Length as L, NotBelow as L0, Above as Lp, Included as A, Rotation as R, Version as Ver}
@@ -41,10 +44,10 @@ use Rattle.order.specs.declared.Phase.TheVariants.{AwaitTitle as await_title, Aw
 use Rattle.order.specs.declared.State.{State}
 use Rattle.order.specs.declared.State.TheVariants.{Between as between, Inside as inside}
 use Rattle.order.specs.declared.Reason.TheVariants.{Misplaced as misplaced}
-use Rattle.order.specs.declared.Outcome.{Outcome}
-use Rattle.order.specs.declared.Outcome.TheVariants.{Next as next, Refused as refused}
+use Rattle.order.specs.declared.Reason.{Reason}
 use Rattle.basics.proofs.Bools.{both, not_both}
-use Rattle.shown_lists.proofs.Roles.{is_header, is_role_true}
+use Rattle.order.proofs.Roles.{is_role_true}
+use Rattle.shown_lists.proofs.Roles.{is_header}
 use Rattle.shown_lists.proofs.Fields.{no_reference}
 use Rattle.shown_lists.proofs.Tables.{header_first, header_not_middle, no_header, laid}
 use Rattle.shown_lists.proofs.CompletePoints.{Leads, here, step, in_step, open_step}
@@ -75,16 +78,16 @@ abbrev Typed : FileType → State → Type 0
 Typed t (between g) = Staged t g
 Typed t (inside g s p) = InPhase t g p
 
-abbrev TypedOf : FileType → Outcome → Type 0
+abbrev TypedOf : FileType → Result State Reason → Type 0
 TypedOf t (next st) = Typed t st
 TypedOf t (refused e) = Unit {0}
 
-fit_typed : (t : FileType) (b f : Bool) (x y : Outcome) → TypedOf t x → TypedOf t y → TypedOf t (if_fit b f x y)
+fit_typed : (t : FileType) (b f : Bool) (x y : Result State Reason) → TypedOf t x → TypedOf t y → TypedOf t (if_fit b f x y)
 fit_typed t true true x y p q = p
 fit_typed t true false x y p q = tt
 fit_typed t false f x y p q = q
 
-only_typed : (t : FileType) (b : Bool) (x : Outcome) → TypedOf t x → TypedOf t (only_if b x)
+only_typed : (t : FileType) (b : Bool) (x : Result State Reason) → TypedOf t x → TypedOf t (only_if b x)
 only_typed t true x p = p
 only_typed t false x p = tt
 
@@ -258,10 +261,10 @@ module _ (v : Rules) where
     within_any R z = refl
     within_any Ver z = refl
 
-    count_any : (l : Limit) (x : NumberAnswer) → of_count (under v a) l x ≡ of_count (under v b) l x
-    count_any l (Count z) = rw (within_any l z)
-    count_any l NotNumber = refl
-    count_any l TooFine = refl
+    count_any : (l : Limit) (x : Result ℤ NumberError) → of_count (under v a) l x ≡ of_count (under v b) l x
+    count_any l (Ok z) = rw (within_any l z)
+    count_any l (Err NotNumber) = refl
+    count_any l (Err TooFine) = refl
 
     field_any : (t : FieldType) (f : Field) → is_ref t ≡ false → read_field (under v a) t f ≡ read_field (under v b) t f
     unfolding read_field kept barred

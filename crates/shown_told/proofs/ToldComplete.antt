@@ -15,8 +15,8 @@ use Rattle.law.specs.Records.{Named}
 use Rattle.order.specs.Automaton.{start, type_at, accepting, through, onward, run, admit, noted}
 use Rattle.order.specs.declared.State.{State}
 use Rattle.order.specs.declared.State.TheVariants.{Between as between, Inside as inside}
-use Rattle.order.specs.declared.Outcome.{Outcome}
-use Rattle.order.specs.declared.Outcome.TheVariants.{Next as next, Refused as stops}
+use Rattle.order.specs.declared.Reason.{Reason}
+use Rattle.std.specs.Prelude.{Result, Ok as next, Err as stops}
 use Rattle.shown_lists.proofs.FirstLine.{taken, later_through, through_same, accepted_exactly}
 use Rattle.law.specs.LineSpelling.{Where, outside, leads_to, SpellsLines, end, free, line}
 use Rattle.shown_told.specs.Told.{nothing, line_says, ended, told_from}
@@ -37,7 +37,7 @@ module _ (v : Rules) where
   spells_through {used = used} {st = st} (free f m) e h = pass (free_says used st e f) (spells_through m e h)
   spells_through {u} {w} {used} {st} {en} (line {r = r} {rs = rs} {l = l} {ls = ls} p m) e h = go (admit v used st r) refl h (λ t. spells_through {used = noted v used r} {st = t} m)
     where
-      go : (o : Outcome) → admit v used st r ≡ o → onward o (λ t. run v (noted v used r) t rs) ≡ through en
+      go : (o : Result State Reason) → admit v used st r ≡ o → onward o (λ t. run v (noted v used r) t rs) ≡ through en
           → ((t : State) → where_of t ≡ leads_to (role_of v r.kind) w → run v (noted v used r) t rs ≡ through en → Through v (noted v used r) t ls rs en)
           → Through v used st (l ∷ ls) (r ∷ rs) en
       go (stops x) j h k = let z : ◌≡◌ {A = ℕ} 0 1 = cc in absurd (omega arith)

@@ -2,12 +2,14 @@
 use Prim.Native.Nat.{ℕ}
 use mathlib.Core.Path.{◌≡◌, refl, sym, ap, subst}
 use mathlib.Core.List.{List, [], ◌++◌, append-nil}
-use mathlib.Core.Option.{Option, none, some}
+use Rattle.std.specs.Prelude.{Option, Some as some, None as none, Result, Ok as next, Err as stops}
 use mathlib.Core.Bool.{Bool, true, false, cond, ◌&&◌}
 use lib.Dec.{eqb}
 use Rattle.basics.proofs.Bools.{both}
 use Rattle.law.specs.Values.{Rec}
-use Rattle.law.specs.Kinds.{section_of, Role, opening, closing, title, name, lead, point, prop, entry, part, position, role_of}
+use Rattle.law.specs.Kinds.{section_of, role_of}
+use Rattle.law.specs.declared.Role.{Role}
+use Rattle.law.specs.declared.Role.TheVariants.{Opening as opening, Closing as closing, Title as title, Name as name, Lead as lead, Point as point, Prop as prop, Entry as entry, Part as part, Position as position}
 use Rattle.law.specs.Fits.{under, well_formed, WellFormed}
 use Rattle.law.specs.declared.Rules.{Rules}
 use Rattle.law.specs.declared.FileType.{FileType}
@@ -23,9 +25,8 @@ use Rattle.order.specs.declared.Phase.TheVariants.{AwaitTitle, AwaitName, Header
 use Rattle.order.specs.declared.State.{State}
 use Rattle.order.specs.declared.State.TheVariants.{Between as between, Inside as inside}
 use Rattle.order.specs.declared.Reason.TheVariants.{Misplaced as misplaced}
-use Rattle.order.specs.declared.Outcome.{Outcome}
-use Rattle.order.specs.declared.Outcome.TheVariants.{Next as next, Refused as stops}
-use Rattle.shown_lists.proofs.Roles.{is_role_true}
+use Rattle.order.specs.declared.Reason.{Reason}
+use Rattle.order.proofs.Roles.{is_role_true}
 use Rattle.shown_lists.proofs.FirstLine.{taken, accepted_exactly, run_typed}
 use Rattle.law.specs.LineSpelling.{Where, outside, inside as within, leads_to, SpellsLines, end, free, line}
 use Rattle.shown_told.specs.Told.{ended, told_from}
@@ -41,7 +42,7 @@ where_of (between g) = outside
 where_of (inside g s p) = within
 
 -- a record leads where its role does
-abbrev Goes : Where → Outcome → Type 0
+abbrev Goes : Where → Result State Reason → Type 0
 Goes w (next t) = w ≡ where_of t
 Goes w (stops e) = Unit {0}
 
@@ -49,7 +50,7 @@ goes_point : (g : Stage) (s : ℕ) (o : Option LoopState) → Goes within (after
 goes_point g s none = tt
 goes_point g s (some l) = refl
 
-goes_only : (w : Where) (b : Bool) (x : Outcome) → Goes w x → Goes w (only_if b x)
+goes_only : (w : Where) (b : Bool) (x : Result State Reason) → Goes w x → Goes w (only_if b x)
 goes_only w true x h = h
 goes_only w false x h = tt
 
@@ -58,7 +59,7 @@ module _ (v : Rules) where
     abbrev role : Role
     role = role_of v r.kind
 
-    way : (w : Where) (a : Role) (x y : Outcome) → Goes (leads_to a w) x → Goes (leads_to role w) y → Goes (leads_to role w) (if_fit (is_role role a) fit x y)
+    way : (w : Where) (a : Role) (x y : Result State Reason) → Goes (leads_to a w) x → Goes (leads_to role w) y → Goes (leads_to role w) (if_fit (is_role role a) fit x y)
     way w a x y p q = go (is_role role a) fit refl
       where
         go : (b f : Bool) → is_role role a ≡ b → Goes (leads_to role w) (if_fit b f x y)

@@ -4,7 +4,7 @@ use mathlib.Core.Path.{◌≡◌, subst, sym}
 use mathlib.Core.List.{List, [], ◌∷◌, ◌++◌}
 use lib.IntN.{ℤ}
 use Rattle.law.specs.Values.{Rec}
-use Rattle.law.specs.Kinds.{Role}
+use Rattle.law.specs.declared.Role.{Role}
 use Rattle.law.specs.Fits.{under, WellFormed}
 use Rattle.law.specs.declared.Rules.{Rules}
 use Rattle.law.specs.declared.FileType.{FileType}

@@ -1,9 +1,12 @@
 -- What a line says in a state, and what the lines of a file say: the whole order of refusals on a line stands here.
-use Rattle.std.specs.Prelude.{ℕ, suc, List, [], ◌∷◌, cond, drop}
+use Rattle.std.specs.Prelude.{ℕ, suc, List, [], ◌∷◌, cond, drop, Result, Ok as next, Err as stops}
 use Rattle.law.specs.Fields.{Field}
 use Rattle.law.specs.Values.{Value, Rec}
 use Rattle.form.specs.Values.{Reply, good, refused}
-use Rattle.law.specs.Kinds.{prop, role_of}
+use Rattle.law.specs.Refusals.{number_of}
+use Rattle.law.specs.declared.refusals.Refusal.TheVariants.{Misplaced}
+use Rattle.law.specs.Kinds.{role_of}
+use Rattle.law.specs.declared.Role.TheVariants.{Prop as prop}
 use Rattle.law.specs.Layouts.{types_of}
 use Rattle.law.specs.Fits.{under}
 use Rattle.form.specs.Reading.{read_fields, Line, free, bad, key_line, data_line, line_as, keyword_of}
@@ -11,11 +14,10 @@ use Rattle.law.specs.declared.Rules.{Rules}
 use Rattle.line_rows.specs.LineKinds.{is_prop}
 use Rattle.law.specs.Records.{Named}
 use Rattle.order.specs.Places.{data_kind, key_kind}
-use Rattle.order.specs.Automaton.{is_role, refusal_number, type_at, may_stand, admit, noted}
+use Rattle.order.specs.Automaton.{is_role, refusal_of, type_at, may_stand, admit, noted}
 use Rattle.order.specs.declared.State.{State}
 use Rattle.order.specs.declared.State.TheVariants.{Between as between, Inside as inside}
-use Rattle.order.specs.declared.Outcome.{Outcome}
-use Rattle.order.specs.declared.Outcome.TheVariants.{Next as next, Refused as stops}
+use Rattle.order.specs.declared.Reason.{Reason}
 
 -- nothing; a record, and the state after it; or the number of a refusal
 pub data Said : Type 0 where
@@ -29,13 +31,13 @@ free_in (between g) = nothing
 free_in (inside g s p) = wrong 5
 
 -- the loop rule, 11, then names used before, 12
-abbrev pub said_of : Rec → Outcome → Said
+abbrev pub said_of : Rec → Result State Reason → Said
 said_of r (next t) = says r t
-said_of r (stops e) = wrong (refusal_number e 5)
+said_of r (stops e) = wrong (number_of (refusal_of e Misplaced))
 
 abbrev pub said_by : Rules → List Named → State → ℕ → Reply (List Value) → Said
 said_by v used st k (good vs) = let r : Rec = record { kind = k; values = vs } in said_of r (admit v used st r)
-said_by v used st k (refused n) = wrong n
+said_by v used st k (refused e) = wrong (number_of e)
 
 -- a line of kind k: 5 where it cannot stand, 6 for the number of its fields, then each field by 7 to 10
 unfoldable pub said_at : Rules → List Named → State → ℕ → List Field → Said
@@ -48,7 +50,7 @@ own_fields v k fs = cond (is_role (role_of v k) prop) (drop 1 fs) fs
 -- 3 and 4 come before all that
 abbrev pub said_as : Rules → List Named → State → Line → Said
 said_as v used st free = free_in st
-said_as v used st (bad n) = wrong n
+said_as v used st (bad e) = wrong (number_of e)
 said_as v used st (key_line w fs) = said_at v used st (key_kind v (keyword_of w)) fs
 said_as v used st (data_line fs) = let k = data_kind v st (is_prop fs) in said_at v used st k (own_fields v k fs)
 

@@ -18,8 +18,8 @@ use Rattle.order.specs.Marks.{point_of}
 use Rattle.order.specs.Automaton.{type_at, may_stand, stepped, advance, accepted, accepts}
 use Rattle.order.specs.declared.State.{State}
 use Rattle.order.specs.declared.Reason.TheVariants.{Misplaced, Unfit}
-use Rattle.order.specs.declared.Outcome.{Outcome}
-use Rattle.order.specs.declared.Outcome.TheVariants.{Next, Refused}
+use Rattle.order.specs.declared.Reason.{Reason}
+use Rattle.std.specs.Prelude.{Result, Ok as Next, Err as Refused}
 use Rattle.order.proofs.Steps.{advance_is, advance_stepped}
 use Rattle.write_columns.specs.Columns.{kind_in, row_fits}
 use Rattle.write_columns.specs.Records.{record_in}
@@ -30,7 +30,7 @@ use Rattle.shown_read.proofs.LineJoined.{admit_fresh, row_steps}
 use Rattle.shown_write.specs.Texts.{ListMeans, none, more, Wide, a_row}
 
 -- a test of the next state
-same_accepted : (o : Outcome) (f g : State → Bool) → ((t : State) → f t ≡ g t) → accepted o f ≡ accepted o g
+same_accepted : (o : Result State Reason) (f g : State → Bool) → ((t : State) → f t ≡ g t) → accepted o f ≡ accepted o g
 same_accepted (Next t) f g h = h t
 same_accepted (Refused e) f g h = refl
 
@@ -64,7 +64,7 @@ module _ (v : Rules) where
         where
           go : (b : Bool) → well_formed (under v (type_at st)) r ≡ b
               → accepted (cond b (stepped v st (kind_in x) (type_in_row x) (point_in x)) (Refused Unfit)) f ≡ accepted (advance v st r) f
-          go true e = ap (λ (o : Outcome). accepted o f) (row_advances e)
+          go true e = ap (λ (o : Result State Reason). accepted o f) (row_advances e)
           go false e = sym (unfit_refused st r f e)
 
     pub carries_is : {rs : List Rec} {xs : List (List ℤ)} → ListMeans v bytes rs xs → (st : State) → carries v bytes st xs ≡ accepts v st rs
@@ -78,7 +78,7 @@ module _ (v : Rules) where
     carries_means [] st w c = ([], none)
     carries_means (x ∷ xs) st (a_row h w) c = go (row_fits (under v (type_at st)) bytes x) refl c (λ t. carries_means xs t w)
       where
-        rest : (o : Outcome) → accepted o (λ t. carries v bytes t xs) ≡ true → ((t : State) → carries v bytes t xs ≡ true → (rs : List Rec) × ListMeans v bytes rs xs)
+        rest : (o : Result State Reason) → accepted o (λ t. carries v bytes t xs) ≡ true → ((t : State) → carries v bytes t xs ≡ true → (rs : List Rec) × ListMeans v bytes rs xs)
             → (rs : List Rec) × ListMeans v bytes rs xs
         rest (Next t) c ih = ih t c
         rest (Refused e) c ih = absurd (false≢true c)

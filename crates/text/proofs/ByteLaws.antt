@@ -58,6 +58,15 @@ class_permits b = go (eqb b 32) (eqb b 34) (permitted b) (λ h. rw (eqb-true b 3
 pub class_allows : (b : ℕ) (k : ByteClass) → k ≡ class_of b → allowed k ≡ permitted b
 class_allows b k e = ap allowed e ∙ sym (class_permits b)
 
+pub forbidden_not : (b : ℕ) (k : ByteClass) → k ≡ class_of b → k ≡ Forbidden → false ≡ permitted b
+forbidden_not b k e h = sym (ap allowed h) ∙ class_allows b k e
+
+pub other_permitted : (b : ℕ) (k : ByteClass) → k ≡ class_of b → (k ≡ Forbidden → ⊥) → true ≡ permitted b
+other_permitted b Space e n = class_allows b Space e
+other_permitted b Quote e n = class_allows b Quote e
+other_permitted b Permitted e n = class_allows b Permitted e
+other_permitted b Forbidden e n = absurd (n refl)
+
 -- all bytes permitted, those passed and those left
 pub record Cleaning (line : List ℕ) (good : Bool) (i : ℕ) : Type 0 where
   pub left : (good && all_of permitted (drop i line)) ≡ all_of permitted line

@@ -31,12 +31,7 @@ pub fn class(b: u8) -> ByteClass
 pub fn permits(b: u8) -> bool
     ensures { result ≡ permitted b }
 {
-    match class(b) {
-        ByteClass::Space => true,
-        ByteClass::Quote => true,
-        ByteClass::Permitted => true,
-        ByteClass::Forbidden => false,
-    }
+    !matches!(class(b), ByteClass::Forbidden)
 }
 
 // Whether no byte of a line is forbidden; all are looked at in any case, which takes less time than to stop at one.
@@ -44,10 +39,8 @@ pub fn clean(line: &[u8]) -> bool
     ensures { result ≡ all_of permitted line.now }
 {
     let mut good = true;
-    let mut i = 0;
-    while i < line.len() {
-        good = good & permits(line[i]);
-        i += 1;
+    for b in line {
+        good = good & permits(*b);
     }
     good
 }
@@ -56,14 +49,12 @@ pub fn clean(line: &[u8]) -> bool
 fn line_feed(s: &[u8]) -> usize
     ensures { result ≡ line_feed s.now }
 {
-    let mut i = 0;
-    while i < s.len() {
-        if s[i] == 10 {
+    for (i, b) in s.iter().enumerate() {
+        if *b == 10 {
             return i;
         }
-        i += 1;
     }
-    i
+    s.len()
 }
 
 // Where a line's content ends and where the next line begins, counted from the line's first byte.
@@ -84,22 +75,14 @@ pub fn line_end(s: &[u8]) -> LineEnd
             next: i,
         };
     }
-    let next = i + 1;
-    if i == 0 {
-        return LineEnd {
-            content: i,
-            next: next,
-        };
-    }
-    if s[i - 1] == 13 {
-        return LineEnd {
-            content: i - 1,
-            next: next,
-        };
-    }
+    let content = if (0 < i) && (s[i - 1] == 13) {
+        i - 1
+    } else {
+        i
+    };
     LineEnd {
-        content: i,
-        next: next,
+        content,
+        next: i + 1,
     }
 }
 
@@ -107,8 +90,5 @@ pub fn line_end(s: &[u8]) -> LineEnd
 pub fn begins_with(s: &[u8], b: u8) -> bool
     ensures { result ≡ begins b s.now }
 {
-    if s.len() == 0 {
-        return false;
-    }
-    s[0] == b
+    s.first() == Some(&b)
 }

@@ -7,9 +7,8 @@ use native.Mathlib.Omega.{arith}
 use lib.Dec.{eqb}
 use lib.ListN.{length, drop, length-drop}
 use Rattle.law.specs.Bytes.{is_space, in_bare, in_quotes}
-use Rattle.text_fields.specs.FirstField.{span, ends_well, bare_at, closed_at, quoted_at, field_at, field_of}
-use Rattle.text_fields.specs.declared.FieldAnswer.{FieldAnswer}
-use Rattle.text_fields.specs.declared.FieldAnswer.TheVariants.{Nothing, Got, Broken}
+use Rattle.text_fields.specs.FirstField.{span, FirstField, ends_well, found_if, bare_at, closed_at, quoted_at, one_of, field_at, field_of}
+use Rattle.std.specs.Prelude.{Some, None, Ok, Err}
 use Rattle.text_fields.proofs.FieldLaws.{span_le}
 
 -- what stands after a run does not pass
@@ -33,46 +32,46 @@ pub record Lies (k n a l m : ℕ) : Type 0 where
   pub inside : a + l ≤ m
 
 -- the same of an answer
-abbrev pub Bounded : ℕ → ℕ → FieldAnswer → Type 0
-Bounded k n Nothing = Unit {0}
-Bounded k n (Got a l q m) = Lies k n a l m
-Bounded k n Broken = Unit {0}
+abbrev pub Bounded : ℕ → ℕ → FirstField → Type 0
+Bounded k n (Ok None) = Unit {0}
+Bounded k n (Ok (Some f)) = Lies k n f.start f.len f.next
+Bounded k n (Err e) = Unit {0}
 
-bounded_by : (k n : ℕ) (t : Bool) (x : FieldAnswer) → Bounded k n x → Bounded k n (cond t x Broken)
-bounded_by k n true x h = h
-bounded_by k n false x h = tt
+bounded_by : (k n : ℕ) (t : Bool) (a l : ℕ) (q : Bool) (m : ℕ) → Lies k n a l m → Bounded k n (one_of (found_if t a l q m))
+bounded_by k n true a l q m h = h
+bounded_by k n false a l q m h = tt
 
-bounded_more : (k n k' n' : ℕ) → k' ≤ k → k + n ≤ k' + n' → (x : FieldAnswer) → Bounded k n x → Bounded k' n' x
-bounded_more k n k' n' g h Nothing b = tt
-bounded_more k n k' n' g h (Got a l q m) b = record { past = omega arith; within = omega arith; inside = b.inside }
-bounded_more k n k' n' g h Broken b = tt
+bounded_more : (k n k' n' : ℕ) → k' ≤ k → k + n ≤ k' + n' → (x : FirstField) → Bounded k n x → Bounded k' n' x
+bounded_more k n k' n' g h (Ok None) b = tt
+bounded_more k n k' n' g h (Ok (Some f)) b = record { past = omega arith; within = omega arith; inside = b.inside }
+bounded_more k n k' n' g h (Err e) b = tt
 
-bare_bounded : (k b : ℕ) (s : List ℕ) → in_bare b ≡ true → Bounded k (length (b ∷ s)) (bare_at k (b ∷ s))
+bare_bounded : (k b : ℕ) (s : List ℕ) → in_bare b ≡ true → Bounded k (length (b ∷ s)) (one_of (bare_at k (b ∷ s)))
 unfolding bare_at
 bare_bounded k b s h =
     let n = span in_bare (b ∷ s) in
     let e : n ≡ suc (span in_bare s) = span_some in_bare b s h in
     let i : n ≤ suc (length s) = span_le in_bare (b ∷ s) in
-    bounded_by k (length (b ∷ s)) (ends_well (drop n (b ∷ s))) (Got k n false (k + n)) (record { past = omega arith; within = omega arith; inside = omega arith })
+    bounded_by k (length (b ∷ s)) (ends_well (drop n (b ∷ s))) k n false (k + n) (record { past = omega arith; within = omega arith; inside = omega arith })
 
-closed_bounded : (k n : ℕ) (w : List ℕ) → Bounded k (n + length w) (closed_at k n w)
+closed_bounded : (k n : ℕ) (w : List ℕ) → Bounded k (n + length w) (one_of (closed_at k n w))
 unfolding closed_at
 closed_bounded k n [] = tt
-closed_bounded k n (b ∷ s) = bounded_by k (n + suc (length s)) (ends_well s) (Got k n true (k + n + 1)) (record { past = omega arith; within = omega arith; inside = omega arith })
+closed_bounded k n (b ∷ s) = bounded_by k (n + suc (length s)) (ends_well s) k n true (k + n + 1) (record { past = omega arith; within = omega arith; inside = omega arith })
 
-quoted_bounded : (k : ℕ) (s : List ℕ) → Bounded k (length s) (quoted_at k s)
+quoted_bounded : (k : ℕ) (s : List ℕ) → Bounded k (length s) (one_of (quoted_at k s))
 unfolding quoted_at
 quoted_bounded k s =
     let n = span in_quotes s in
-    bounded_more k (n + length (drop n s)) k (length s) (omega arith) (omega (arith, length-drop n s, span_le in_quotes s)) (closed_at k n (drop n s)) (closed_bounded k n (drop n s))
+    bounded_more k (n + length (drop n s)) k (length s) (omega arith) (omega (arith, length-drop n s, span_le in_quotes s)) (one_of (closed_at k n (drop n s))) (closed_bounded k n (drop n s))
 
 at_bounded : (k : ℕ) (s : List ℕ) → ((b : ℕ) (t : List ℕ) → s ≡ b ∷ t → eqb b 32 ≡ false) → Bounded k (length s) (field_at k s)
 unfolding field_at
 at_bounded k [] f = tt
 at_bounded k (b ∷ s) f = go (eqb b 34) refl
   where
-    go : (t : Bool) → eqb b 34 ≡ t → Bounded k (length (b ∷ s)) (cond t (quoted_at (k + 1) s) (bare_at k (b ∷ s)))
-    go true h = bounded_more (k + 1) (length s) k (length (b ∷ s)) (omega arith) (omega arith) (quoted_at (k + 1) s) (quoted_bounded (k + 1) s)
+    go : (t : Bool) → eqb b 34 ≡ t → Bounded k (length (b ∷ s)) (one_of (cond t (quoted_at (k + 1) s) (bare_at k (b ∷ s))))
+    go true h = bounded_more (k + 1) (length s) k (length (b ∷ s)) (omega arith) (omega arith) (one_of (quoted_at (k + 1) s)) (quoted_bounded (k + 1) s)
     go false h = bare_bounded k b s (simp (f b s refl, h))
 
 -- the field passes something, and lies in the part

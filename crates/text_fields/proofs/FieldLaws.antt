@@ -1,8 +1,6 @@
 -- Laws of runs and of the first field, at the places where the code cites them.
 use Prim.Native.Nat.{ℕ, suc, ◌+◌, ◌-◌, ◌^◌, ◌≤◌, ◌<◌}
-use mir.Syntax.{w64}
-use mir.Val.{Fits}
-use mathlib.Core.Path.{◌≡◌, refl, ◌∙◌}
+use mathlib.Core.Path.{◌≡◌, refl, ap, ◌∙◌}
 use mathlib.Core.Logic.{◌≢◌}
 use mathlib.Core.List.{List, [], ◌∷◌}
 use mathlib.Core.Bool.{Bool, true, false, cond, ◌&&◌}
@@ -14,11 +12,12 @@ use lib.ListN.{length, take, drop, get_or, drop_of_length-le}
 use lib.Seq.{drop-cons}
 use Rattle.basics.proofs.Lists.{rest}
 use Rattle.law.specs.Bytes.{all_of}
-use Rattle.text_fields.specs.FirstField.{span, passes_of, run_len, ends_well, bare_at, closed_at, quoted_at, field_at, field_of}
+use Rattle.text_fields.specs.FirstField.{span, passes_of, run_len, ends_well, bare_at, closed_at, quoted_at, one_of, field_at, field_of}
 use Rattle.text_fields.specs.declared.Run.{Run}
 use Rattle.text_fields.specs.declared.Run.TheVariants.{Spaces, Bare, Quoted}
-use Rattle.text_fields.specs.declared.FieldAnswer.{FieldAnswer}
-use Rattle.text_fields.specs.declared.FieldAnswer.TheVariants.{Nothing, Got, Broken}
+use Rattle.std.specs.Prelude.{Some, None, Result, Ok, Err}
+use Rattle.text_fields.specs.declared.FoundField.{FoundField}
+use Rattle.text_fields.specs.declared.BrokenQuoting.{BrokenQuoting}
 
 -- a run is no longer than the list
 pub span_le : (p : ℕ → Bool) (s : List ℕ) → span p s ≤ length s
@@ -29,13 +28,6 @@ span_le p (b ∷ s) = go (p b) (span_le p s)
     go : (t : Bool) → span p s ≤ length s → cond t (suc (span p s)) 0 ≤ suc (length s)
     go true h = omega arith
     go false h = omega arith
-
-pub run_within : (k : Run) (s : List ℕ) (n : ℕ) → n ≡ run_len k s → n ≤ length s
-run_within k s n e = omega (arith, span_le (passes_of k) s)
-
--- so the place behind a run fits where the end of the list does
-pub run_fits : (r : Run) (s : List ℕ) (k n : ℕ) → n ≡ run_len r s → k + length s < 2 ^ 64 → Fits w64 (k + n)
-run_fits r s k n e h = omega (arith, span_le (passes_of r) s)
 
 module _ (p : ℕ → Bool) (s : List ℕ) (i : ℕ) where
   -- at a byte that passes the run goes on
@@ -91,36 +83,61 @@ ends_byte s n h = simp (drop-cons s n 0 h)
 
 -- a bare field and a quoted one, from the length n of their run and from whether they end well
 module _ (k : ℕ) (s : List ℕ) (n : ℕ) where
-  pub bare_got : {b : Bool} → n ≡ run_len Bare s → b ≡ ends_well (drop n s) → b ≡ true → Got k n false (k + n) ≡ bare_at k s
+  pub bare_got : {b : Bool} → n ≡ run_len Bare s → b ≡ ends_well (drop n s) → b ≡ true → Ok (record { start = k; len = n; quoted = false; next = k + n }) ≡ bare_at k s
   unfolding bare_at
   bare_got r e t = simp (← r, ← e, t)
 
-  pub bare_not : {b : Bool} → n ≡ run_len Bare s → b ≡ ends_well (drop n s) → b ≡ false → Broken ≡ bare_at k s
+  pub bare_not : {b : Bool} → n ≡ run_len Bare s → b ≡ ends_well (drop n s) → b ≡ false → Err (record {}) ≡ bare_at k s
   unfolding bare_at
   bare_not r e t = simp (← r, ← e, t)
 
-  pub quoted_open : n ≡ run_len Quoted s → length s ≤ n → Broken ≡ quoted_at k s
+  pub quoted_open : n ≡ run_len Quoted s → length s ≤ n → Err (record {}) ≡ quoted_at k s
   unfolding quoted_at closed_at
   quoted_open r h = simp (← r, drop_of_length-le s h)
 
-  pub quoted_got : {b : Bool} → n ≡ run_len Quoted s → n < length s → b ≡ ends_well (drop (n + 1) s) → b ≡ true → Got k n true (k + n + 1) ≡ quoted_at k s
+  pub quoted_got : {b : Bool} → n ≡ run_len Quoted s → n < length s → b ≡ ends_well (drop (n + 1) s) → b ≡ true
+      → Ok (record { start = k; len = n; quoted = true; next = k + n + 1 }) ≡ quoted_at k s
   unfolding quoted_at closed_at
   quoted_got r h e t = simp (← r, drop-cons s n 0 h, ← add-one n, ← e, t)
 
-  pub quoted_not : {b : Bool} → n ≡ run_len Quoted s → n < length s → b ≡ ends_well (drop (n + 1) s) → b ≡ false → Broken ≡ quoted_at k s
+  pub quoted_not : {b : Bool} → n ≡ run_len Quoted s → n < length s → b ≡ ends_well (drop (n + 1) s) → b ≡ false → Err (record {}) ≡ quoted_at k s
   unfolding quoted_at closed_at
   quoted_not r h e t = simp (← r, drop-cons s n 0 h, ← add-one n, ← e, t)
 
 -- the first field, from the length k of the spaces before it
 module _ (s : List ℕ) (k : ℕ) where
-  pub field_none : k ≡ run_len Spaces s → length s ≤ k → Nothing ≡ field_of s
+  pub field_none : k ≡ run_len Spaces s → length s ≤ k → Ok None ≡ field_of s
   unfolding field_of field_at
   field_none n h = simp (← n, drop_of_length-le s h)
 
-  pub field_quoted : {r : FieldAnswer} → k ≡ run_len Spaces s → k < length s → get_or s k 0 ≡ 34 → r ≡ quoted_at (k + 1) (take (length s - (k + 1)) (drop (k + 1) s)) → r ≡ field_of s
+  by_quoted : {r : Result FoundField BrokenQuoting} → k ≡ run_len Spaces s → k < length s → get_or s k 0 ≡ 34
+      → r ≡ quoted_at (k + 1) (take (length s - (k + 1)) (drop (k + 1) s)) → one_of r ≡ field_of s
   unfolding field_of field_at
-  field_quoted n h q e = e ∙ simp (rest, ← n, drop-cons s k 0 h, q, add-one k)
+  by_quoted n h q e = ap one_of e ∙ simp (rest, ← n, drop-cons s k 0 h, q, add-one k)
 
-  pub field_bare : {r : FieldAnswer} → k ≡ run_len Spaces s → k < length s → get_or s k 0 ≢ 34 → r ≡ bare_at k (take (length s - k) (drop k s)) → r ≡ field_of s
+  by_bare : {r : Result FoundField BrokenQuoting} → k ≡ run_len Spaces s → k < length s → get_or s k 0 ≢ 34
+      → r ≡ bare_at k (take (length s - k) (drop k s)) → one_of r ≡ field_of s
   unfolding field_of field_at
-  field_bare n h q e = e ∙ rw rest (simp (← n, drop-cons s k 0 h, ne_eqb (get_or s k 0) 34 q))
+  by_bare n h q e = ap one_of e ∙ rw rest (simp (← n, drop-cons s k 0 h, ne_eqb (get_or s k 0) 34 q))
+
+  pub field_quoted : {f : FoundField} → k ≡ run_len Spaces s → k < length s → get_or s k 0 ≡ 34
+      → Ok f ≡ quoted_at (k + 1) (take (length s - (k + 1)) (drop (k + 1) s)) → Ok (Some f) ≡ field_of s
+  field_quoted n h q e = by_quoted n h q e
+
+  pub field_quoted_not : {b : BrokenQuoting} → k ≡ run_len Spaces s → k < length s → get_or s k 0 ≡ 34
+      → Err b ≡ quoted_at (k + 1) (take (length s - (k + 1)) (drop (k + 1) s)) → Err b ≡ field_of s
+  field_quoted_not n h q e = by_quoted n h q e
+
+  pub field_bare : {f : FoundField} → k ≡ run_len Spaces s → k < length s → get_or s k 0 ≢ 34
+      → Ok f ≡ bare_at k (take (length s - k) (drop k s)) → Ok (Some f) ≡ field_of s
+  field_bare n h q e = by_bare n h q e
+
+  pub field_bare_not : {b : BrokenQuoting} → k ≡ run_len Spaces s → k < length s → get_or s k 0 ≢ 34
+      → Err b ≡ bare_at k (take (length s - k) (drop k s)) → Err b ≡ field_of s
+  field_bare_not n h q e = by_bare n h q e
+
+pub ruleset field_steps = (field_none, field_quoted, field_quoted_not, field_bare, field_bare_not)
+
+pub ruleset bare_steps = (bare_got, bare_not, span_le)
+
+pub ruleset quoted_steps = (quoted_open, quoted_got, quoted_not)

@@ -4,7 +4,7 @@ use mathlib.Core.Path.{◌≡◌, refl, sym, ap, subst, ◌∙◌}
 use mathlib.Core.List.{List, [], ◌∷◌, ◌++◌, append_assoc, append-nil}
 use mathlib.Core.Option.{Option, none, some}
 use mathlib.Core.Bool.{Bool, true, false, cond, not}
-use native.Mathlib.Nat.{not-suc-le-zero, zero-add, suc-add}
+use native.Mathlib.Nat.{not-suc-le-zero, zero-add}
 use native.Mathlib.Omega.{arith}
 use borrow.Author.Tests.{eqb-true, not-false}
 use lib.Dec.{eqb}
@@ -15,11 +15,10 @@ use Rattle.law.specs.Bytes as sp
 use Rattle.law.specs.Bytes.{is_space, in_bare, in_quotes, All}
 use Rattle.law.specs.Fields.{Field, field, Spells, Spelled, bare, quoted, end, space, last, next}
 use Rattle.law.specs.FieldPlaces.{Spot, spot_of}
-use Rattle.text_fields.specs.FirstField.{span, ends_well, bare_at, closed_at, quoted_at, field_at, field_of}
+use Rattle.text_fields.specs.FirstField.{FirstField, span, ends_well, found_if, bare_at, closed_at, quoted_at, one_of, field_at, field_of}
 use Rattle.text_fields.specs.Fields.{before, fields_by, fields_in, fields_of, count_of}
-use Rattle.text_fields.specs.declared.CountAnswer.TheVariants.{Fields}
-use Rattle.text_fields.specs.declared.FieldAnswer.{FieldAnswer}
-use Rattle.text_fields.specs.declared.FieldAnswer.TheVariants.{Nothing, Got, Broken}
+use Rattle.std.specs.Prelude.{Some, None, Ok, Err}
+use Rattle.text_fields.specs.declared.FoundField.{FoundField}
 use Rattle.text_fields.proofs.Bounds.{span_some, span_after}
 
 -- the bytes of a run pass its test
@@ -47,24 +46,24 @@ record Took (k : ℕ) (u : List ℕ) (a l : ℕ) (q : Bool) (m : ℕ) : Type 0 w
   pub spells : Spells (field q (take l (drop j u))) (take n u)
   pub ends : ends_well (drop n u) ≡ true
 
-abbrev TookBy : ℕ → List ℕ → FieldAnswer → Type 0
-TookBy k u Nothing = u ≡ []
-TookBy k u (Got a l q m) = Took k u a l q m
-TookBy k u Broken = Unit {0}
+abbrev TookBy : ℕ → List ℕ → FirstField → Type 0
+TookBy k u (Ok None) = u ≡ []
+TookBy k u (Ok (Some f)) = Took k u f.start f.len f.quoted f.next
+TookBy k u (Err e) = Unit {0}
 
-took_by : (k : ℕ) (u : List ℕ) (t : Bool) (x : FieldAnswer) → (t ≡ true → TookBy k u x) → TookBy k u (cond t x Broken)
-took_by k u true x f = f refl
-took_by k u false x f = tt
+took_by : (k : ℕ) (u : List ℕ) (t : Bool) (a l : ℕ) (q : Bool) (m : ℕ) → (t ≡ true → Took k u a l q m) → TookBy k u (one_of (found_if t a l q m))
+took_by k u true a l q m f = f refl
+took_by k u false a l q m f = tt
 
 bare_spells : (n b : ℕ) (t : List ℕ) → 0 < n → All in_bare (take n (b ∷ t)) → Spells (field false (take n (b ∷ t))) (take n (b ∷ t))
 bare_spells zero b t h a = absurd (not-suc-le-zero h)
 bare_spells (suc n) b t h a = bare a
 
-bare_took : (k b : ℕ) (t : List ℕ) → in_bare b ≡ true → TookBy k (b ∷ t) (bare_at k (b ∷ t))
+bare_took : (k b : ℕ) (t : List ℕ) → in_bare b ≡ true → TookBy k (b ∷ t) (one_of (bare_at k (b ∷ t)))
 unfolding bare_at
 bare_took k b t h =
     let n = span in_bare (b ∷ t) in
-    took_by k (b ∷ t) (ends_well (drop n (b ∷ t))) (Got k n false (k + n)) λ e.
+    took_by k (b ∷ t) (ends_well (drop n (b ∷ t))) k n false (k + n) λ e.
     record {
       n = n;
       j = 0;
@@ -74,17 +73,17 @@ bare_took k b t h =
       ends = e;
     }
 
-quoted_took : (k : ℕ) (t : List ℕ) → TookBy k (34 ∷ t) (quoted_at (k + 1) t)
+quoted_took : (k : ℕ) (t : List ℕ) → TookBy k (34 ∷ t) (one_of (quoted_at (k + 1) t))
 unfolding quoted_at closed_at
 quoted_took k t = go (drop (span in_quotes t) t) refl
   where
-    go : (w : List ℕ) → drop (span in_quotes t) t ≡ w → TookBy k (34 ∷ t) (closed_at (k + 1) (span in_quotes t) w)
+    go : (w : List ℕ) → drop (span in_quotes t) t ≡ w → TookBy k (34 ∷ t) (one_of (closed_at (k + 1) (span in_quotes t) w))
     go [] e = tt
     go (b ∷ v) e =
         let n = span in_quotes t in
         let h = drop_tail n t b v e in
         let q : b ≡ 34 = eqb-true b 34 (not-false _ (span_after in_quotes t b v e)) in
-        took_by k (34 ∷ t) (ends_well v) (Got (k + 1) n true (k + 1 + n + 1)) λ w.
+        took_by k (34 ∷ t) (ends_well v) (k + 1) n true (k + 1 + n + 1) λ w.
         record {
           n = suc (suc n);
           j = 1;
@@ -99,7 +98,7 @@ unfolding field_at
 at_took k [] f = refl
 at_took k (b ∷ t) f = go (eqb b 34) refl
   where
-    go : (w : Bool) → eqb b 34 ≡ w → TookBy k (b ∷ t) (cond w (quoted_at (k + 1) t) (bare_at k (b ∷ t)))
+    go : (w : Bool) → eqb b 34 ≡ w → TookBy k (b ∷ t) (one_of (cond w (quoted_at (k + 1) t) (bare_at k (b ∷ t))))
     go true h = rw (eqb-true b 34 h) (quoted_took k t)
     go false h = bare_took k b t (simp (f b t refl, h))
 
@@ -135,30 +134,31 @@ unfolding ends_well
 join {f} {fs} s [] p e r = rw (none_spelled r refl, append-nil) (last p)
 join {f} {fs} s (b ∷ t) p e r = rw (eqb-true b 32 e) (next p (rw (eqb-true b 32 e) at r))
 
-got_spelled : {fs : List Field} {a l m : ℕ} {q : Bool} (s : List ℕ) → field_of s ≡ Got a l q m → Spelled fs (drop m s) → Spelled (field q (take l (drop a s)) ∷ fs) s
-got_spelled {fs} {a} {l} {m} {q} s h r =
+got_spelled : {fs : List Field} {f : FoundField} (s : List ℕ) → field_of s ≡ Ok (Some f) → Spelled fs (drop f.next s)
+    → Spelled (field f.quoted (take f.len (drop f.start s)) ∷ fs) s
+got_spelled {fs} {f} s h r =
     let k = span is_space s in
     let u = drop k s in
-    let t : Took k u a l q m = subst (TookBy k u) h (took s) in
-    let d : drop m s ≡ drop t.n u = ap (λ (i : ℕ). drop i s) t.stop ∙ sym (drop-drop t.n k s) in
-    let x : drop a s ≡ drop t.j u = ap (λ (i : ℕ). drop i s) t.start ∙ sym (drop-drop t.j k s) in
-    let y : Spelled (field q (take l (drop t.j u)) ∷ fs) (take t.n u ++ drop t.n u) = join (take t.n u) (drop t.n u) t.spells t.ends (rw d at r) in
+    let t : Took k u f.start f.len f.quoted f.next = subst (TookBy k u) h (took s) in
+    let d : drop f.next s ≡ drop t.n u = ap (λ (i : ℕ). drop i s) t.stop ∙ sym (drop-drop t.n k s) in
+    let x : drop f.start s ≡ drop t.j u = ap (λ (i : ℕ). drop i s) t.start ∙ sym (drop-drop t.j k s) in
+    let y : Spelled (field f.quoted (take f.len (drop t.j u)) ∷ fs) (take t.n u ++ drop t.n u) = join (take t.n u) (drop t.n u) t.spells t.ends (rw d at r) in
     strip s (rw x (rw take-append-drop at y))
 
 by_field : (fuel : ℕ) (s : List ℕ) (fs : List Field) → ((t : List ℕ) (gs : List Field) → fields_in fuel t ≡ some gs → Spelled gs t)
-    → (x : FieldAnswer) → field_of s ≡ x → fields_by x s (λ n. fields_in fuel (drop n s)) ≡ some fs → Spelled fs s
-by_field fuel s fs ih Nothing h e =
+    → (x : FirstField) → field_of s ≡ x → fields_by x s (λ n. fields_in fuel (drop n s)) ≡ some fs → Spelled fs s
+by_field fuel s fs ih (Ok None) h e =
     let n : [] ≡ fs = cc in
     let u : drop (span is_space s) s ≡ [] = subst (TookBy (span is_space s) (drop (span is_space s) s)) h (took s) in
     strip s (rw (u, ← n) end)
-by_field fuel s fs ih (Got a l q m) h e = go (fields_in fuel (drop m s)) refl e
+by_field fuel s fs ih (Ok (Some f)) h e = go (fields_in fuel (drop f.next s)) refl e
   where
-    go : (r : Option (List Field)) → fields_in fuel (drop m s) ≡ r → before (field q (take l (drop a s))) r ≡ some fs → Spelled fs s
+    go : (r : Option (List Field)) → fields_in fuel (drop f.next s) ≡ r → before (field f.quoted (take f.len (drop f.start s))) r ≡ some fs → Spelled fs s
     go none i e = absurd (none_some e)
     go (some gs) i e =
-        let n : field q (take l (drop a s)) ∷ gs ≡ fs = cc in
-        rw (← n) (got_spelled s h (ih (drop m s) gs i))
-by_field fuel s fs ih Broken h e = absurd (none_some e)
+        let n : field f.quoted (take f.len (drop f.start s)) ∷ gs ≡ fs = cc in
+        rw (← n) (got_spelled s h (ih (drop f.next s) gs i))
+by_field fuel s fs ih (Err b) h e = absurd (none_some e)
 
 pub sound_in : (fuel : ℕ) (s : List ℕ) (fs : List Field) → fields_in fuel s ≡ some fs → Spelled fs s
 unfolding fields_in
@@ -187,7 +187,7 @@ pub record Read (f : Field) (s t : List ℕ) : Type 0 where
   pub l : ℕ
   pub q : Bool
   pub m : ℕ
-  pub is : field_of (s ++ t) ≡ Got a l q m
+  pub is : field_of (s ++ t) ≡ Ok (Some (record { start = a; len = l; quoted = q; next = m }))
   pub same : field q (take l (drop a (s ++ t))) ≡ f
   pub spot : (b : ℕ) → ◌≡◌ {A = Spot} (record { at = b + a; what = field q (take l (drop a (s ++ t))) }) (spot_of b f)
   pub long : m ≡ length s
@@ -266,30 +266,30 @@ some_spells (bare a) = omega arith
 some_spells (quoted a) = omega arith
 
 -- A space in front moves the answer
-abbrev pub shift : FieldAnswer → FieldAnswer
-shift Nothing = Nothing
-shift (Got a l q m) = Got (suc a) l q (suc m)
-shift Broken = Broken
+abbrev pub shift : FirstField → FirstField
+shift (Ok None) = Ok None
+shift (Ok (Some f)) = Ok (Some (record { start = suc f.start; len = f.len; quoted = f.quoted; next = suc f.next }))
+shift (Err e) = Err e
 
-shift_by_test : (t : Bool) (x y : FieldAnswer) → x ≡ shift y → cond t x Broken ≡ shift (cond t y Broken)
-shift_by_test true x y e = e
-shift_by_test false x y e = refl
+shift_if : (t : Bool) (a b l : ℕ) (q : Bool) (m n : ℕ) → b ≡ suc a → n ≡ suc m → one_of (found_if t b l q n) ≡ shift (one_of (found_if t a l q m))
+shift_if true a b l q m n d e = rw (d, e)
+shift_if false a b l q m n d e = refl
 
-shift_bare : (k : ℕ) (u : List ℕ) → bare_at (suc k) u ≡ shift (bare_at k u)
+shift_bare : (k : ℕ) (u : List ℕ) → one_of (bare_at (suc k) u) ≡ shift (one_of (bare_at k u))
 unfolding bare_at
-shift_bare k u = shift_by_test (ends_well (drop (span in_bare u) u)) _ _ (simp suc-add)
+shift_bare k u = shift_if (ends_well (drop (span in_bare u) u)) k (suc k) (span in_bare u) false (k + span in_bare u) (suc k + span in_bare u) refl (omega arith)
 
-shift_closed : (k n : ℕ) (w : List ℕ) → closed_at (suc k + 1) n w ≡ shift (closed_at (k + 1) n w)
+shift_closed : (k n : ℕ) (w : List ℕ) → one_of (closed_at (suc k + 1) n w) ≡ shift (one_of (closed_at (k + 1) n w))
 unfolding closed_at
 shift_closed k n [] = refl
-shift_closed k n (b ∷ v) = shift_by_test (ends_well v) _ _ (simp suc-add)
+shift_closed k n (b ∷ v) = shift_if (ends_well v) (k + 1) (suc k + 1) n true (k + 1 + n + 1) (suc k + 1 + n + 1) (omega arith) (omega arith)
 
 shift_at : (k : ℕ) (u : List ℕ) → field_at (suc k) u ≡ shift (field_at k u)
 unfolding field_at quoted_at
 shift_at k [] = refl
 shift_at k (b ∷ t) = go (eqb b 34)
   where
-    go : (w : Bool) → cond w (quoted_at (suc k + 1) t) (bare_at (suc k) (b ∷ t)) ≡ shift (cond w (quoted_at (k + 1) t) (bare_at k (b ∷ t)))
+    go : (w : Bool) → one_of (cond w (quoted_at (suc k + 1) t) (bare_at (suc k) (b ∷ t))) ≡ shift (one_of (cond w (quoted_at (k + 1) t) (bare_at k (b ∷ t))))
     go true = shift_closed k (span in_quotes t) (drop (span in_quotes t) t)
     go false = shift_bare k (b ∷ t)
 
@@ -297,10 +297,10 @@ pub shift_of : (s : List ℕ) → field_of (32 ∷ s) ≡ shift (field_of s)
 unfolding field_of span
 shift_of s = shift_at (span is_space s) (drop (span is_space s) s)
 
-shift_by : (x : FieldAnswer) (s : List ℕ) (later : List ℕ → Option (List Field)) → fields_by (shift x) (32 ∷ s) (λ n. later (drop n (32 ∷ s))) ≡ fields_by x s (λ n. later (drop n s))
-shift_by Nothing s later = refl
-shift_by (Got a l q m) s later = refl
-shift_by Broken s later = refl
+shift_by : (x : FirstField) (s : List ℕ) (later : List ℕ → Option (List Field)) → fields_by (shift x) (32 ∷ s) (λ n. later (drop n (32 ∷ s))) ≡ fields_by x s (λ n. later (drop n s))
+shift_by (Ok None) s later = refl
+shift_by (Ok (Some f)) s later = refl
+shift_by (Err e) s later = refl
 
 complete_in : {fs : List Field} {s : List ℕ} → Spelled fs s → (fuel : ℕ) → length s < fuel → fields_in fuel s ≡ some fs
 unfolding fields_in field_of field_at span ends_well
@@ -325,6 +325,6 @@ pub fields_unique : (s : List ℕ) (fs gs : List Field) → Spelled fs s → Spe
 fields_unique s fs gs p q = let e = fields_complete s fs p in let f = fields_complete s gs q in cc
 
 -- and `count_fields` answers its length, or broken quoting where there is none
-pub fields_counted : (s : List ℕ) (fs : List Field) → Spelled fs s → count_of s ≡ Fields (length fs)
+pub fields_counted : (s : List ℕ) (fs : List Field) → Spelled fs s → count_of s ≡ Ok (length fs)
 unfolding count_of
 fields_counted s fs r = rw (fields_complete s fs r)

@@ -18,8 +18,7 @@ use Rattle.law.specs.Fields.{Field, field}
 use Rattle.text_fields.specs.FirstField.{span, ends_well, bare_at, field_at, field_of}
 use Rattle.text_fields.specs.Fields.{before, fields_in, fields_of, count_by, count_of}
 use Rattle.text_fields.specs.Starts.{one_if, starts_in, holds_quote, rough_of}
-use Rattle.text_fields.specs.declared.FieldAnswer.TheVariants.{Nothing, Got}
-use Rattle.text_fields.specs.declared.CountAnswer.TheVariants.{Fields}
+use Rattle.std.specs.Prelude.{Some, None, Ok}
 use Rattle.text_fields.specs.declared.Rough.{Rough}
 
 -- starts and quotes, those passed and those left
@@ -117,13 +116,13 @@ spaces_end (a ∷ s) b u e = go (eqb a 32) refl (spaces_end s b u) e
     go true e ih k = ih k
     go false e ih k = let z : a ≡ b = cc in sym (ap (λ (x : ℕ). eqb x 32) z) ∙ e
 
-count_before : (f : Field) (r : Option (List Field)) (n : ℕ) → count_by r ≡ Fields n → count_by (before f r) ≡ Fields (suc n)
+count_before : (f : Field) (r : Option (List Field)) (n : ℕ) → count_by r ≡ Ok n → count_by (before f r) ≡ Ok (suc n)
 count_before f none n h = let z : ◌≡◌ {A = ℕ} 0 1 = cc in absurd (omega arith)
 count_before f (some fs) n h = let z : length fs ≡ n = cc in rw z
 
 -- the first field of such a line
 module _ (s : List ℕ) (h : holds_quote s ≡ false) where
-  first_none : drop (span is_space s) s ≡ [] → field_of s ≡ Nothing
+  first_none : drop (span is_space s) s ≡ [] → field_of s ≡ Ok None
   unfolding field_of field_at
   first_none e = rw e
 
@@ -143,7 +142,8 @@ module _ (s : List ℕ) (h : holds_quote s ≡ false) where
     unfolding span
     bare_long = rw (spaces_end s b u e, no_quote)
 
-    first_bare : field_of s ≡ Got (span is_space s) (span in_bare (b ∷ u)) false (span is_space s + span in_bare (b ∷ u))
+    first_bare : field_of s
+        ≡ Ok (Some (record { start = span is_space s; len = span in_bare (b ∷ u); quoted = false; next = span is_space s + span in_bare (b ∷ u) }))
     unfolding field_of field_at bare_at
     first_bare = rw (e, no_quote, bare_ends (b ∷ u) left)
 
@@ -164,29 +164,29 @@ module _ (s : List ℕ) (h : holds_quote s ≡ false) where
         let n = bare_long in
         omega (arith, length-drop (span is_space s) s, length-drop (span is_space s + span in_bare (b ∷ u)) s)
 
-count_none : (fuel : ℕ) (s : List ℕ) → holds_quote s ≡ false → drop (span is_space s) s ≡ [] → count_by (fields_in (suc fuel) s) ≡ Fields (starts_in true s)
+count_none : (fuel : ℕ) (s : List ℕ) → holds_quote s ≡ false → drop (span is_space s) s ≡ [] → count_by (fields_in (suc fuel) s) ≡ Ok (starts_in true s)
 unfolding fields_in starts_in
 count_none fuel s h e = rw (first_none s h e, starts_spaces s ∙ ap (starts_in true) e)
 
 count_one : (fuel : ℕ) (s : List ℕ) (h : holds_quote s ≡ false) (b : ℕ) (u : List ℕ) → drop (span is_space s) s ≡ b ∷ u
-    → count_by (fields_in fuel (drop (span is_space s + span in_bare (b ∷ u)) s)) ≡ Fields (starts_in true (drop (span is_space s + span in_bare (b ∷ u)) s))
-    → count_by (fields_in (suc fuel) s) ≡ Fields (starts_in true s)
+    → count_by (fields_in fuel (drop (span is_space s + span in_bare (b ∷ u)) s)) ≡ Ok (starts_in true (drop (span is_space s + span in_bare (b ∷ u)) s))
+    → count_by (fields_in (suc fuel) s) ≡ Ok (starts_in true s)
 unfolding fields_in
 count_one fuel s h b u e ih =
     rw (first_bare s h b u e, one_start s h b u e)
     (count_before (field false (take (span in_bare (b ∷ u)) (drop (span is_space s) s))) (fields_in fuel (drop (span is_space s + span in_bare (b ∷ u)) s)) _ ih)
 
 -- each turn takes one field, and one start
-plain_count : (fuel : ℕ) (s : List ℕ) → length s < fuel → holds_quote s ≡ false → count_by (fields_in fuel s) ≡ Fields (starts_in true s)
+plain_count : (fuel : ℕ) (s : List ℕ) → length s < fuel → holds_quote s ≡ false → count_by (fields_in fuel s) ≡ Ok (starts_in true s)
 plain_count zero s l h = absurd (omega arith)
 plain_count (suc fuel) s l h = go (drop (span is_space s) s) refl (λ n k. plain_count fuel (drop n s) k (no_quote_behind n s h))
   where
     go : (t : List ℕ) → drop (span is_space s) s ≡ t
-        → ((n : ℕ) → length (drop n s) < fuel → count_by (fields_in fuel (drop n s)) ≡ Fields (starts_in true (drop n s)))
-        → count_by (fields_in (suc fuel) s) ≡ Fields (starts_in true s)
+        → ((n : ℕ) → length (drop n s) < fuel → count_by (fields_in fuel (drop n s)) ≡ Ok (starts_in true (drop n s)))
+        → count_by (fields_in (suc fuel) s) ≡ Ok (starts_in true s)
     go [] e ih = count_none fuel s h e
     go (b ∷ u) e ih = count_one fuel s h b u e (ih (span is_space s + span in_bare (b ∷ u)) (shorter s h b u e fuel l))
 
-pub plain_counted : (line : List ℕ) (p : Rough) → p ≡ rough_of line → p.quoted ≡ false → Fields p.starts ≡ count_of line
+pub plain_counted : (line : List ℕ) (p : Rough) → p ≡ rough_of line → p.quoted ≡ false → Ok p.starts ≡ count_of line
 unfolding rough_of count_of fields_of
-plain_counted line p e h = ap (λ (x : Rough). Fields x.starts) e ∙ sym (plain_count (suc (length line)) line (omega arith) (sym (ap (λ (x : Rough). x.quoted) e) ∙ h))
+plain_counted line p e h = ap (λ (x : Rough). Ok x.starts) e ∙ sym (plain_count (suc (length line)) line (omega arith) (sym (ap (λ (x : Rough). x.quoted) e) ∙ h))

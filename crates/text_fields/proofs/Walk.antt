@@ -3,17 +3,17 @@ use Prim.Native.Nat.{ℕ, zero, suc, pred, ◌+◌, ◌-◌, ◌≤◌, ◌<◌}
 use mathlib.Core.Path.{◌≡◌, refl, sym, subst, ◌∙◌}
 use mathlib.Core.List.{List, [], ◌∷◌, ◌++◌, append_assoc, append-nil}
 use mathlib.Core.Option.{Option, none, some}
-use mathlib.Core.Bool.{Bool}
 use native.Mathlib.Nat.{not-suc-le-zero}
 use native.Mathlib.Omega.{arith}
 use lib.ListN.{length, take, drop, length-drop, length-append}
 use lib.Seq.{drop-drop}
 use Rattle.basics.proofs.Lists.{rest}
 use Rattle.law.specs.Fields.{Field, field}
-use Rattle.text_fields.specs.FirstField.{field_of}
+use Rattle.text_fields.specs.FirstField.{FirstField, field_of}
 use Rattle.text_fields.specs.Fields.{before, fields_by, fields_in, fields_of}
-use Rattle.text_fields.specs.declared.FieldAnswer.{FieldAnswer}
-use Rattle.text_fields.specs.declared.FieldAnswer.TheVariants.{Nothing, Got, Broken}
+use Rattle.std.specs.Prelude.{Some, None, Ok, Err}
+use Rattle.text_fields.specs.declared.FoundField.{FoundField}
+use Rattle.text_fields.specs.declared.BrokenQuoting.{BrokenQuoting}
 use Rattle.text_fields.proofs.Bounds.{Lies, Bounded, bounded}
 
 -- fields in front of others, if there are others
@@ -48,34 +48,34 @@ unfolding fields_of
 walk_start line = record { within = omega arith; passed = omega arith; fuel = suc (length line); enough = omega arith; left = behind_nil _ }
 
 -- r is what `field` answers at the part from `at`
-module _ {line : List ℕ} {at : ℕ} {done : List Field} {r : FieldAnswer} (w : Walking line at done) (e : r ≡ field_of (take (length line - at) (drop at line))) where
-  here : {x : FieldAnswer} → r ≡ x → field_of (drop at line) ≡ x
+module _ {line : List ℕ} {at : ℕ} {done : List Field} {r : FirstField} (w : Walking line at done) (e : r ≡ field_of (take (length line - at) (drop at line))) where
+  here : {x : FirstField} → r ≡ x → field_of (drop at line) ≡ x
   here h = sym (rw rest at e) ∙ h
 
-  left_by : {x : FieldAnswer} → r ≡ x → fields_of line ≡ behind done (fields_by x (drop at line) (λ m. fields_in (pred w.fuel) (drop m (drop at line))))
+  left_by : {x : FirstField} → r ≡ x → fields_of line ≡ behind done (fields_by x (drop at line) (λ m. fields_in (pred w.fuel) (drop m (drop at line))))
   left_by h = rw (fields_step w.fuel (drop at line) (omega arith), here h) at w.left
 
-  pub walk_none : r ≡ Nothing → fields_of line ≡ some done
+  pub walk_none : r ≡ Ok None → fields_of line ≡ some done
   walk_none h = rw append-nil at (left_by h)
 
-  pub walk_bad : r ≡ Broken → fields_of line ≡ none
+  pub walk_bad : {b : BrokenQuoting} → r ≡ Err b → fields_of line ≡ none
   walk_bad h = left_by h
 
-  module _ {a l m : ℕ} {q : Bool} (h : r ≡ Got a l q m) where
-    pub walk_lies : Lies at (length line - at) (at + a) l (at + m)
+  module _ {f : FoundField} (h : r ≡ Ok (Some f)) where
+    pub walk_lies : Lies at (length line - at) (at + f.start) f.len (at + f.next)
     walk_lies =
-        let b : Lies 0 (length (drop at line)) a l m = subst (Bounded 0 (length (drop at line))) (here h) (bounded (drop at line)) in
+        let b : Lies 0 (length (drop at line)) f.start f.len f.next = subst (Bounded 0 (length (drop at line))) (here h) (bounded (drop at line)) in
         record { past = omega arith; within = omega (arith, length-drop at line); inside = omega arith }
 
-    left_next : fields_of line ≡ behind (done ++ (field q (take l (drop (at + a) line)) ∷ [])) (fields_in (pred w.fuel) (drop (at + m) line))
-    left_next = rw (drop-drop a at line, drop-drop m at line, behind_before) at (left_by h)
+    left_next : fields_of line ≡ behind (done ++ (field f.quoted (take f.len (drop (at + f.start) line)) ∷ [])) (fields_in (pred w.fuel) (drop (at + f.next) line))
+    left_next = rw (drop-drop f.start at line, drop-drop f.next at line, behind_before) at (left_by h)
 
-    pub walk_next : Walking line (at + m) (done ++ (field q (take l (drop (at + a) line)) ∷ []))
+    pub walk_next : Walking line (at + f.next) (done ++ (field f.quoted (take f.len (drop (at + f.start) line)) ∷ []))
     walk_next =
         let b = walk_lies in
         record {
           within = omega arith;
-          passed = omega (arith, length-append done (field q (take l (drop (at + a) line)) ∷ []));
+          passed = omega (arith, length-append done (field f.quoted (take f.len (drop (at + f.start) line)) ∷ []));
           fuel = pred w.fuel;
           enough = omega arith;
           left = left_next;

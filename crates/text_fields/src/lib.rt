@@ -20,7 +20,7 @@ fn passes(k: Run, b: u8) -> bool
 {
     match k {
         Run::Spaces => b == 32,
-        Run::Bare => { if b == 32 { false } else { b != 34 } }
+        Run::Bare => (b != 32) && (b != 34),
         Run::Quoted => b != 34,
     }
 }
@@ -29,14 +29,12 @@ fn passes(k: Run, b: u8) -> bool
 fn run_len(s: &[u8], k: Run) -> usize
     ensures { result ≡ run_len k s.now }
 {
-    let mut i = 0;
-    while i < s.len() {
-        if !passes(k, s[i]) {
+    for (i, b) in s.iter().enumerate() {
+        if !passes(k, *b) {
             return i;
         }
-        i += 1;
     }
-    i
+    s.len()
 }
 
 // Whether a field may end before the byte at a place: at the line's end, or before a space.
@@ -44,84 +42,75 @@ fn ends(s: &[u8], at: usize) -> bool
     requires { at ≤ length s.now }
     ensures { result ≡ ends_well (drop at s.now) }
 {
-    if at == s.len() {
-        return true;
-    }
-    s[at] == 32
+    (at == s.len()) || (s[at] == 32)
 }
 
-// The first field of a part of a line: none is left; where it stands, its quotes left off, and the place after it; broken quoting.
+// A field of a part of a line: where it stands, its quotes left off, and the place after it.
 #[derive(Clone, Copy)]
-pub enum FieldAnswer {
-    Nothing,
-    Got {
-        start: usize,
-        len: usize,
-        quoted: bool,
-        next: usize,
-    },
-    Broken,
+pub struct FoundField {
+    pub start: usize,
+    pub len: usize,
+    pub quoted: bool,
+    pub next: usize,
 }
+
+// The refusal of a quote that stands where none may, or that no quote closes.
+#[derive(Clone, Copy, PartialEq, Eq)]
+pub struct BrokenQuoting;
 
 // A bare field at the front of s, k bytes into the part.
-fn bare(s: &[u8], k: usize) -> FieldAnswer
+#[tactic(auto, using(crate::proofs::FieldLaws::bare_steps))]
+fn bare(s: &[u8], k: usize) -> Result<FoundField, BrokenQuoting>
     requires { k + length s.now < 2 ^ 64 }
     ensures { result ≡ bare_at k s.now }
 {
     let n = run_len(s, Run::Bare);
-    if ends(s, n) {
-        FieldAnswer::Got {
-            start: k,
-            len: n,
-            quoted: false,
-            next: k + n,
-        }
-    } else {
-        FieldAnswer::Broken
+    if !ends(s, n) {
+        return Err(BrokenQuoting);
     }
+    Ok(FoundField {
+        start: k,
+        len: n,
+        quoted: false,
+        next: k + n,
+    })
 }
 
 // A quoted field: s is what follows the opening quote, k bytes into the part.
-fn quoted(s: &[u8], k: usize) -> FieldAnswer
+#[tactic(auto, using(crate::proofs::FieldLaws::quoted_steps))]
+fn quoted(s: &[u8], k: usize) -> Result<FoundField, BrokenQuoting>
     requires { k + length s.now < 2 ^ 64 }
     ensures { result ≡ quoted_at k s.now }
 {
     let n = run_len(s, Run::Quoted);
     if n >= s.len() {
-        return FieldAnswer::Broken;
+        return Err(BrokenQuoting);
     }
-    if ends(s, n + 1) {
-        FieldAnswer::Got {
-            start: k,
-            len: n,
-            quoted: true,
-            next: k + n + 1,
-        }
-    } else {
-        FieldAnswer::Broken
+    if !ends(s, n + 1) {
+        return Err(BrokenQuoting);
     }
+    Ok(FoundField {
+        start: k,
+        len: n,
+        quoted: true,
+        next: k + n + 1,
+    })
 }
 
-// The first field of a part of a line.
-pub fn field(s: &[u8]) -> FieldAnswer
+// The first field of a part of a line, if any is left.
+#[tactic(auto, using(crate::proofs::FieldLaws::field_steps))]
+pub fn field(s: &[u8]) -> Result<Option<FoundField>, BrokenQuoting>
     ensures { result ≡ field_of s.now }
 {
     let at = run_len(s, Run::Spaces);
     if at >= s.len() {
-        return FieldAnswer::Nothing;
+        return Ok(None);
     }
     if s[at] == 34 {
-        quoted(&s[at + 1..], at + 1)
+        Ok(Some(quoted(&s[at + 1..], at + 1)?))
     } else {
-        bare(&s[at..], at)
+        Ok(Some(bare(&s[at..], at)?))
     }
-}
-
-// How many fields a line has, unless its quoting is broken.
-#[derive(Clone, Copy)]
-pub enum CountAnswer {
-    Fields(usize),
-    Bad,
 }
 
 // One where a test passes.
@@ -146,49 +135,31 @@ fn look_over(line: &[u8]) -> Rough
     let mut n = 0;
     let mut quoted = false;
     let mut space = true;
-    let mut i = 0;
-    while i < line.len() {
-        let b = line[i];
-        n = n + one_if(space & (b != 32));
-        quoted = quoted | (b == 34);
-        space = b == 32;
-        i += 1;
+    for b in line {
+        n = n + one_if(space & (*b != 32));
+        quoted = quoted | (*b == 34);
+        space = *b == 32;
     }
-    Rough {
-        starts: n,
-        quoted: quoted,
-    }
+    Rough { starts: n, quoted }
 }
 
 // The number of fields of a line, field by field.
-fn count_each(line: &[u8]) -> CountAnswer
+#[tactic(auto, using(crate::proofs::Counting::counting))]
+fn count_each(line: &[u8]) -> Result<usize, BrokenQuoting>
     ensures { result ≡ count_of line.now }
 {
     let mut at = 0;
     let mut n = 0;
-    loop {
-        match field(&line[at..]) {
-            FieldAnswer::Nothing => {
-                return CountAnswer::Fields(n);
-            }
-            FieldAnswer::Broken => {
-                return CountAnswer::Bad;
-            }
-            FieldAnswer::Got {
-                start: _,
-                len: _,
-                quoted: _,
-                next,
-            } => {
-                at += next;
-                n += 1;
-            }
-        }
+    while let Some(f) = field(&line[at..])? {
+        at += f.next;
+        n += 1;
     }
+    Ok(n)
 }
 
 // The number of fields of a line; a short one without quotes has as many as bytes that begin one.
-pub fn count_fields(line: &[u8]) -> CountAnswer
+#[tactic(auto, using(crate::proofs::StartLaws::plain_counted))]
+pub fn count_fields(line: &[u8]) -> Result<usize, BrokenQuoting>
     ensures { result ≡ count_of line.now }
 {
     if 255 < line.len() {
@@ -198,5 +169,5 @@ pub fn count_fields(line: &[u8]) -> CountAnswer
     if p.quoted {
         return count_each(line);
     }
-    CountAnswer::Fields(p.starts as usize)
+    Ok(p.starts as usize)
 }

@@ -14,31 +14,32 @@ use Rattle.basics.proofs.Lists.{rest}
 use Rattle.law.specs.Bytes.{permitted, all_of, begins}
 use Rattle.text.specs.Lines.{line_end}
 use Rattle.text_fields.specs.Fields.{count_of}
-use Rattle.text_fields.specs.declared.CountAnswer.{CountAnswer}
-use Rattle.text_fields.specs.declared.CountAnswer.TheVariants.{Fields as Counted, Bad}
+use Rattle.std.specs.Prelude.{Result, Ok, Err}
+use Rattle.text_fields.specs.declared.BrokenQuoting.{BrokenQuoting as Unclosed}
 use Rattle.text.specs.declared.LineEnd.{LineEnd}
 use Rattle.text.proofs.LineLaws.{line_inside}
+use Rattle.law.specs.Refusals.{number_of}
+use Rattle.law.specs.declared.refusals.Refusal.{Refusal}
+use Rattle.law.specs.declared.refusals.Refusal.TheVariants.{ForbiddenByte, BrokenQuoting}
 use Rattle.law.specs.declared.Reply.{Reply}
 use Rattle.law.specs.Answers.{limit, reply, over}
 use Rattle.viewer.specs.declared.Step.{Step}
-use Rattle.viewer.specs.declared.Seen.{Seen}
-use Rattle.viewer.specs.declared.Seen.TheVariants.{Fields, Refused}
 use Rattle.viewer.specs.Views.{line_at, next_at, seen_by, seen_of, places_of, line_reply, reply_at, moves_on, line_after, step_by, step_of, line_places, places_after}
 use Rattle.viewer.proofs.PlaceLaws.{places_long}
 
 -- a tested answer turned round
 -- a line at first sight
 module _ (s : List ℕ) (b : Bool) (e : b ≡ all_of permitted s) where
-  pub seen_forbidden : not b ≡ true → Refused 3 ≡ seen_of s
+  pub seen_forbidden : not b ≡ true → Err ForbiddenByte ≡ seen_of s
   unfolding seen_of
   seen_forbidden h = rw (sym e ∙ not-true b h)
 
-  module _ (h : not b ≡ false) (r : CountAnswer) (i : r ≡ count_of s) where
-    pub seen_fields : (n : ℕ) → r ≡ Counted n → Fields n ≡ seen_of s
+  module _ (h : not b ≡ false) (r : Result ℕ Unclosed) (i : r ≡ count_of s) where
+    pub seen_fields : (n : ℕ) → r ≡ Ok n → Ok n ≡ seen_of s
     unfolding seen_of
     seen_fields n j = rw (sym e ∙ not-false b h, sym i ∙ j)
 
-    pub seen_bad : r ≡ Bad → Refused 4 ≡ seen_of s
+    pub seen_bad : {x : Unclosed} → r ≡ Err x → Err BrokenQuoting ≡ seen_of s
     unfolding seen_of
     seen_bad j = rw (sym e ∙ not-false b h, sym i ∙ j)
 
@@ -68,28 +69,28 @@ module _ (r : Reply) (at l next : ℕ) (b : Bool) (e : b ≡ moves_on r.number) 
   step_stays h = rw (sym e ∙ h)
 
 -- the number of a line's refusal is not 0, and its fields are those counted
-refused_by_lem : (b : Bool) (c : CountAnswer) (n : ℕ) → cond b (seen_by c) (Refused 3) ≡ Refused n → eqb n 0 ≡ false
-refused_by_lem true (Counted m) n e = let z : ◌≡◌ {A = ℕ} 0 1 = cc in absurd (omega arith)
-refused_by_lem true Bad n e = let j : 4 ≡ n = cc in rw (sym j)
-refused_by_lem false c n e = let j : 3 ≡ n = cc in rw (sym j)
+refused_by_lem : (b : Bool) (c : Result ℕ Unclosed) (e : Refusal) → cond b (seen_by c) (Err ForbiddenByte) ≡ Err e → eqb (number_of e) 0 ≡ false
+refused_by_lem true (Ok m) e h = let z : ◌≡◌ {A = ℕ} 0 1 = cc in absurd (omega arith)
+refused_by_lem true (Err x) e h = let j : BrokenQuoting ≡ e = cc in rw (sym j)
+refused_by_lem false c e h = let j : ForbiddenByte ≡ e = cc in rw (sym j)
 
-refused_some : (s : List ℕ) (n : ℕ) → seen_of s ≡ Refused n → eqb n 0 ≡ false
+refused_some : (s : List ℕ) (e : Refusal) → seen_of s ≡ Err e → eqb (number_of e) 0 ≡ false
 unfolding seen_of
-refused_some s n e = refused_by_lem (all_of permitted s) (count_of s) n e
+refused_some s e h = refused_by_lem (all_of permitted s) (count_of s) e h
 
-fields_by_lem : (b : Bool) (c : CountAnswer) (n : ℕ) → cond b (seen_by c) (Refused 3) ≡ Fields n → c ≡ Counted n
-fields_by_lem true (Counted m) n e = let j : m ≡ n = cc in ap Counted j
-fields_by_lem true Bad n e = let z : ◌≡◌ {A = ℕ} 0 1 = cc in absurd (omega arith)
+fields_by_lem : (b : Bool) (c : Result ℕ Unclosed) (n : ℕ) → cond b (seen_by c) (Err ForbiddenByte) ≡ Ok n → c ≡ Ok n
+fields_by_lem true (Ok m) n e = let j : m ≡ n = cc in ap Ok j
+fields_by_lem true (Err x) n e = let z : ◌≡◌ {A = ℕ} 0 1 = cc in absurd (omega arith)
 fields_by_lem false c n e = let z : ◌≡◌ {A = ℕ} 0 1 = cc in absurd (omega arith)
 
-fields_counted : (s : List ℕ) (n : ℕ) → seen_of s ≡ Fields n → count_of s ≡ Counted n
+fields_counted : (s : List ℕ) (n : ℕ) → seen_of s ≡ Ok n → count_of s ≡ Ok n
 unfolding seen_of
 fields_counted s n e = fields_by_lem (all_of permitted s) (count_of s) n e
 
 -- one line
-module _ (s : List ℕ) (base l : ℕ) (old : List ℤ) (x : Seen) (e : x ≡ seen_of s) where
-  module _ (n : ℕ) (h : x ≡ Refused n) where
-    pub reply_refused : reply n l 0 ≡ line_reply s l (length old)
+module _ (s : List ℕ) (base l : ℕ) (old : List ℤ) (x : Result ℕ Refusal) (e : x ≡ seen_of s) where
+  module _ (n : Refusal) (h : x ≡ Err n) where
+    pub reply_refused : reply (number_of n) l 0 ≡ line_reply s l (length old)
     unfolding line_reply
     reply_refused = rw (sym e ∙ h)
 
@@ -97,7 +98,7 @@ module _ (s : List ℕ) (base l : ℕ) (old : List ℤ) (x : Seen) (e : x ≡ se
     unfolding line_places
     kept_refused = rw (sym reply_refused, refused_some s n (sym e ∙ h))
 
-  module _ (n : ℕ) (h : x ≡ Fields n) where
+  module _ (n : ℕ) (h : x ≡ Ok n) where
     pub reply_short : length old / 2 < n → reply 2 0 n ≡ line_reply s l (length old)
     unfolding line_reply
     reply_short k = rw (sym e ∙ h, lt-ltb (length old) (2 * n) (omega arith))

@@ -1,18 +1,16 @@
 -- What the line reader answers at a place of a file, where it stands after it, and what it leaves in the lent slice.
-use Rattle.std.specs.Prelude.{ℕ, zero, suc, ◌+◌, ◌*◌, List, [], ◌∷◌, Bool, cond, ◌||◌, ltb, eqb, ℤ, pos, length, take, drop}
+use Rattle.std.specs.Prelude.{ℕ, zero, suc, ◌+◌, ◌*◌, List, [], ◌∷◌, Bool, cond, ◌||◌, ltb, eqb, ℤ, pos, length, take, drop, Some, None, Result, Ok, Err}
 use Rattle.law.specs.Bytes.{permitted, all_of, begins}
 use Rattle.text.specs.Lines.{line_end}
-use Rattle.text_fields.specs.FirstField.{field_of}
+use Rattle.text_fields.specs.FirstField.{FirstField, field_of}
 use Rattle.text_fields.specs.Fields.{count_of}
-use Rattle.text_fields.specs.declared.FieldAnswer.{FieldAnswer}
-use Rattle.text_fields.specs.declared.FieldAnswer.TheVariants.{Nothing, Got, Broken}
-use Rattle.text_fields.specs.declared.CountAnswer.{CountAnswer}
-use Rattle.text_fields.specs.declared.CountAnswer.TheVariants.{Fields as Counted, Bad}
+use Rattle.text_fields.specs.declared.BrokenQuoting.{BrokenQuoting as Unclosed}
+use Rattle.law.specs.Refusals.{number_of}
+use Rattle.law.specs.declared.refusals.Refusal.{Refusal}
+use Rattle.law.specs.declared.refusals.Refusal.TheVariants.{ForbiddenByte, BrokenQuoting}
 use Rattle.law.specs.declared.Reply.{Reply}
 use Rattle.law.specs.Answers.{limit, reply, over}
 use Rattle.viewer.specs.declared.Step.{Step}
-use Rattle.viewer.specs.declared.Seen.{Seen}
-use Rattle.viewer.specs.declared.Seen.TheVariants.{Fields, Refused}
 
 -- how many bytes of the line at the front of s are looked at: none of a comment
 abbrev pub looked_at : List ℕ → ℕ
@@ -29,19 +27,19 @@ unfoldable pub next_at : List ℕ → ℕ → ℕ
 next_at file at = at + (line_end (drop at file)).next
 
 -- a line without a forbidden byte, by its count of fields
-abbrev pub seen_by : CountAnswer → Seen
-seen_by (Counted n) = Fields n
-seen_by Bad = Refused 4
+abbrev pub seen_by : Result ℕ Unclosed → Result ℕ Refusal
+seen_by (Ok n) = Ok n
+seen_by (Err e) = Err BrokenQuoting
 
 -- a line: 3 for a forbidden byte, then 4 for broken quoting, else its number of fields
-unfoldable pub seen_of : List ℕ → Seen
-seen_of s = cond (all_of permitted s) (seen_by (count_of s)) (Refused 3)
+unfoldable pub seen_of : List ℕ → Result ℕ Refusal
+seen_of s = cond (all_of permitted s) (seen_by (count_of s)) (Err ForbiddenByte)
 
 -- start and length of each field of what is left of a line from a place b of the file on, from what its first field is
-abbrev pub places_by : FieldAnswer → ℕ → (ℕ → List ℤ) → List ℤ
-places_by Nothing b later = []
-places_by (Got a l q m) b later = pos (b + a) ∷ pos l ∷ later m
-places_by Broken b later = []
+abbrev pub places_by : FirstField → ℕ → (ℕ → List ℤ) → List ℤ
+places_by (Ok None) b later = []
+places_by (Ok (Some f)) b later = pos (b + f.start) ∷ pos f.len ∷ later f.next
+places_by (Err e) b later = []
 
 -- the same, where there are fewer than `fuel` fields
 unfoldable pub places_in : ℕ → ℕ → List ℕ → List ℤ
@@ -53,9 +51,9 @@ unfoldable pub places_of : ℕ → List ℕ → List ℤ
 places_of b s = places_in (suc (length s)) b s
 
 -- 2 where the slice holds fewer than two numbers for each field; `room` is its length, l the line's number
-abbrev pub seen_reply : Seen → ℕ → ℕ → Reply
-seen_reply (Refused n) l room = reply n l 0
-seen_reply (Fields n) l room = cond (ltb room (2 * n)) (reply 2 0 n) (reply 0 0 n)
+abbrev pub seen_reply : Result ℕ Refusal → ℕ → ℕ → Reply
+seen_reply (Err e) l room = reply (number_of e) l 0
+seen_reply (Ok n) l room = cond (ltb room (2 * n)) (reply 2 0 n) (reply 0 0 n)
 
 -- the reply to a line whose number is l
 unfoldable pub line_reply : List ℕ → ℕ → ℕ → Reply

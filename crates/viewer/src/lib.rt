@@ -12,13 +12,6 @@ ghost use Rattle.viewer.specs.Readers.{step_here, moved_by, places_here};
 
 use law::Reply;
 
-// A line at first sight: the number of its fields, or the number of its refusal.
-#[derive(Clone, Copy)]
-pub(crate) enum Seen {
-    Fields(usize),
-    Refused(u64),
-}
-
 // What a call answers: its reply, and the place of the line that the next call hands out, with that line's number.
 #[derive(Clone, Copy)]
 pub struct Step {

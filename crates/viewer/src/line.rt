@@ -4,21 +4,21 @@ ghost use Rattle.law.specs.Bytes.{begins};
 ghost use Rattle.law.specs.Answers.{over};
 ghost use Rattle.viewer.specs.Views.{seen_of, places_of, line_reply, line_places, moves_on, line_after, step_by, step_of, places_after};
 
-use crate::{Seen, Step};
-use law::{Reply, refusals};
+use crate::Step;
+use law::Reply;
+use law::refusals::Refusal;
 use order::LIMIT;
-use text_fields::{CountAnswer, FieldAnswer};
 
-// What a line holds.
-fn fields_in(line: &[u8]) -> Seen
+// How many fields a line holds, or its refusal.
+fn fields_in(line: &[u8]) -> Result<usize, Refusal>
     ensures { result ≡ seen_of line.now }
 {
     if !text::clean(line) {
-        return Seen::Refused(refusals::FORBIDDEN_BYTE);
+        return Err(Refusal::ForbiddenByte);
     }
     match text_fields::count_fields(line) {
-        CountAnswer::Fields(n) => Seen::Fields(n),
-        CountAnswer::Bad => Seen::Refused(refusals::BROKEN_QUOTING),
+        Ok(n) => Ok(n),
+        Err(_) => Err(Refusal::BrokenQuoting),
     }
 }
 
@@ -38,25 +38,10 @@ fn put_fields(line: &[u8], base: usize, out: &mut [i64])
 {
     let mut at = 0;
     let mut n = 0;
-    loop {
-        match text_fields::field(&line[at..]) {
-            FieldAnswer::Nothing => {
-                return;
-            }
-            FieldAnswer::Broken => {
-                return;
-            }
-            FieldAnswer::Got {
-                start,
-                len,
-                quoted: _,
-                next,
-            } => {
-                put_pair(out, n, base + at + start, len);
-                at += next;
-                n += 2;
-            }
-        }
+    while let Ok(Some(f)) = text_fields::field(&line[at..]) {
+        put_pair(out, n, base + at + f.start, f.len);
+        at += f.next;
+        n += 2;
     }
 }
 
@@ -67,15 +52,15 @@ fn hand_out(line: &[u8], base: usize, number: u64, out: &mut [i64]) -> Reply
     ensures out_after { out.new ≡ line_places line.now base number out.old }
 {
     match fields_in(line) {
-        Seen::Refused(n) => Reply {
-            number: n,
+        Err(e) => Reply {
+            number: e.number(),
             line: number,
             count: 0,
         },
-        Seen::Fields(n) => {
+        Ok(n) => {
             if out.len() / 2 < n {
                 return Reply {
-                    number: refusals::FEW_ROWS,
+                    number: Refusal::FewRows.number(),
                     line: 0,
                     count: n as u64,
                 };
@@ -97,11 +82,13 @@ fn looked_at(s: &[u8], content: usize) -> usize
     if text::begins_with(s, 35) { 0 } else { content }
 }
 
-// Whether the reader moves on after a reply.
+// Whether the reader moves on after a reply, which has its refusal as C reads it: by number.
 fn moves_on(number: u64) -> bool
     ensures { result ≡ moves_on number }
 {
-    (number == 0) | (number == refusals::FORBIDDEN_BYTE) | (number == refusals::BROKEN_QUOTING)
+    (number == 0)
+        | (number == Refusal::ForbiddenByte.number())
+        | (number == Refusal::BrokenQuoting.number())
 }
 
 // The number of the next line; the largest number, which no line has, stays.
@@ -138,7 +125,7 @@ pub fn fields_at(file: &[u8], at: usize, line: u64, out: &mut [i64]) -> Step
     if LIMIT < file.len() {
         return step(
             Reply {
-                number: refusals::TOO_LARGE,
+                number: Refusal::TooLarge.number(),
                 line: 0,
                 count: 0,
             },
@@ -150,7 +137,7 @@ pub fn fields_at(file: &[u8], at: usize, line: u64, out: &mut [i64]) -> Step
     if file.len() <= at {
         return step(
             Reply {
-                number: refusals::TOO_EARLY,
+                number: Refusal::TooEarly.number(),
                 line: line,
                 count: 0,
             },

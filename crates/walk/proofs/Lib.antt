@@ -3,3 +3,4 @@ pub mod LineLaws
 pub mod EveryLine
 pub mod Sections
 pub mod WalkLaws
+pub mod TurnsLaws

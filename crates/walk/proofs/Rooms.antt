@@ -10,23 +10,25 @@ use lib.Dec.{leb, eqb}
 use lib.ListN.{length}
 use Rattle.law.specs.Bytes.{permitted, all_of, begins}
 use Rattle.law.specs.Fields.{Field, field}
-use Rattle.text_fields.specs.FirstField.{field_of}
+use Rattle.text_fields.specs.FirstField.{FirstField, field_of}
 use Rattle.text_fields.specs.Fields.{fields_of}
-use Rattle.text_fields.specs.declared.FieldAnswer.{FieldAnswer}
-use Rattle.text_fields.specs.declared.FieldAnswer.TheVariants.{Nothing, Got, Broken}
+use Rattle.std.specs.Prelude.{None, Some as Found, Ok, Err, Result}
 use Rattle.text_fields.proofs.Bounds.{Bounded, bounded}
 use Rattle.law.specs.Sections.{section_names, sections}
 use Rattle.law.specs.Words.{end_word, same_bytes, folded}
-use Rattle.law.specs.Kinds.{section_of, unknown, role_of, last_kind}
+use Rattle.law.specs.Kinds.{section_of, role_of, last_kind}
+use Rattle.law.specs.declared.Role.TheVariants.{Unknown as unknown}
 use Rattle.form.specs.Reading.{Line, free, bad, key_line, data_line, by_first, by_fields, line_as, key_from, key_by, keyword_of}
 use Rattle.law.specs.declared.Rules.{Rules}
+use Rattle.law.specs.declared.refusals.Refusal.{Refusal}
+use Rattle.law.specs.declared.refusals.Refusal.TheVariants.{ForbiddenByte}
 use Rattle.law.specs.declared.Rules.TheVariants.{Idf3}
 use Rattle.form.specs.declared.Keyword.{Keyword}
 use Rattle.line_rows.specs.LineKinds.{behind, kind_by, kind_of}
 use Rattle.line_rows.specs.declared.LineKind.{LineKind}
-use Rattle.line_rows.specs.declared.LineKind.TheVariants.{Free, Bad, Key, Data}
+use Rattle.line_rows.specs.declared.LineKind.TheVariants.{Free, Key, Data}
 use Rattle.order.specs.Places.{key_section}
-use Rattle.order.specs.Automaton.{may_stand, stands_by}
+use Rattle.order.specs.Automaton.{may_stand, stands_in}
 use Rattle.order.specs.declared.Phase.{Phase}
 use Rattle.order.specs.declared.Phase.TheVariants.{AwaitTitle, AwaitName, HeaderFull, AwaitLead, InPoints, InProps, InList, AwaitPart, AwaitPosition}
 use Rattle.order.specs.declared.State.{State}
@@ -66,10 +68,10 @@ section_few w =
 behind_within : (s : List ℕ) → behind (field_of s) ≤ length s
 behind_within s = go (field_of s) (bounded s)
   where
-    go : (x : FieldAnswer) → Bounded 0 (length s) x → behind x ≤ length s
-    go Nothing h = omega arith
-    go (Got a l q m) h = let w = h.within in omega arith
-    go Broken h = omega arith
+    go : (x : FirstField) → Bounded 0 (length s) x → behind x ≤ length s
+    go (Ok None) h = omega arith
+    go (Ok (Found f)) h = let w = h.within in omega arith
+    go (Err e) h = omega arith
 
 -- a data line has a field
 abbrev Some : Line → Type 0
@@ -91,7 +93,7 @@ some_data s = go (begins 35 s) (all_of permitted s) (fields_of s)
     by (field true w ∷ fs) = omega arith
     by (field false w ∷ fs) = first (begins 46 w) w fs
 
-    go : (a b : Bool) (o : Option (List Field)) → Some (cond a free (cond b (by_fields o) (bad 3)))
+    go : (a b : Bool) (o : Option (List Field)) → Some (cond a free (cond b (by_fields o) (bad ForbiddenByte)))
     go true b o = tt
     go false true none = tt
     go false true (some fs) = by fs
@@ -102,11 +104,11 @@ record Room (s : List ℕ) (n m : ℕ) : Type 0 where
   some : 1 ≤ n
   within : m ≤ length s
 
-abbrev Roomy : List ℕ → LineKind → Type 0
-Roomy s Free = Unit {0}
-Roomy s (Bad n) = Unit {0}
-Roomy s (Key w n m) = (key_section w ≤ 15) × Room s n m
-Roomy s (Data p n m) = Room s n m
+abbrev Roomy : List ℕ → Result LineKind Refusal → Type 0
+Roomy s (Ok Free) = Unit {0}
+Roomy s (Ok (Key w n m)) = (key_section w ≤ 15) × Room s n m
+Roomy s (Ok (Data p n m)) = Room s n m
+Roomy s (Err e) = Unit {0}
 
 roomy : (s : List ℕ) → Roomy s (kind_of s)
 unfolding kind_of
@@ -118,8 +120,8 @@ roomy s = go (line_as s) (some_data s) (behind_within s)
     go (key_line w fs) h b = (section_few w, record { some = omega arith; within = b })
     go (data_line fs) h b = record { some = h; within = b }
 
-module _ (s : List ℕ) (x : LineKind) (e : x ≡ kind_of s) where
-  module _ (w : Keyword) (n m : ℕ) (h : x ≡ Key w n m) where
+module _ (s : List ℕ) (x : Result LineKind Refusal) (e : x ≡ kind_of s) where
+  module _ (w : Keyword) (n m : ℕ) (h : x ≡ Ok (Key w n m)) where
     pub key_few : key_section w ≤ 15
     key_few = (subst (Roomy s) (sym e ∙ h) (roomy s)).0
 
@@ -129,7 +131,7 @@ module _ (s : List ℕ) (x : LineKind) (e : x ≡ kind_of s) where
     pub key_within : m ≤ length s
     key_within = (subst (Roomy s) (sym e ∙ h) (roomy s)).1.within
 
-  module _ (p : Bool) (n m : ℕ) (h : x ≡ Data p n m) where
+  module _ (p : Bool) (n m : ℕ) (h : x ≡ Ok (Data p n m)) where
     pub data_some : 1 ≤ n
     data_some = (subst (Roomy s) (sym e ∙ h) (roomy s)).some
 
@@ -138,7 +140,7 @@ module _ (s : List ℕ) (x : LineKind) (e : x ≡ kind_of s) where
 
 -- a kind that may stand is small
 
-nowhere : (p : Phase) → stands_by p 10 ≡ false
+nowhere : (p : Phase) → stands_in p unknown ≡ false
 nowhere AwaitTitle = refl
 nowhere (AwaitName t) = refl
 nowhere (HeaderFull t) = refl

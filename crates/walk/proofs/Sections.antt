@@ -2,17 +2,20 @@
 use Prim.Native.Nat.{ℕ, ◌/◌, ◌≤◌}
 use mathlib.Core.Path.{◌≡◌, refl}
 use mathlib.Core.List.{List}
-use mathlib.Core.Option.{Option, none, some}
+use Rattle.std.specs.Prelude.{Option, Some as some, None as none, Result, Ok, Err, Ok as Next, Err as Stops}
 use mathlib.Core.Bool.{Bool, true, false, cond}
 use native.Mathlib.Omega.{arith}
 use borrow.Author.Tests.{leb-true}
-use lib.Dec.{leb, eqb}
+use lib.Dec.{leb}
 use lib.IntN.{ℤ}
 use Rattle.rows.specs.Columns.{point_in, type_in_row}
 use Rattle.rows.specs.declared.Point.{Point}
 use Rattle.law.specs.Kinds.{section_of, role_of, last_kind}
 use Rattle.law.specs.Fits.{under}
+use Rattle.law.specs.declared.Role.{Role}
+use Rattle.law.specs.declared.Role.TheVariants.{Point as point, Prop as prop, Entry as entry, Part as part}
 use Rattle.law.specs.declared.Rules.{Rules}
+use Rattle.law.specs.declared.refusals.Refusal.{Refusal}
 use Rattle.law.specs.declared.Rules.TheVariants.{Idf3}
 use Rattle.law.specs.declared.FileType.{FileType}
 use Rattle.line_rows.specs.Rows.{filled}
@@ -20,7 +23,7 @@ use Rattle.line_rows.specs.declared.Filling.{Filling}
 use Rattle.order_loops.specs.Loops.{loop_after, complete}
 use Rattle.law.specs.Records.{many_loops}
 use Rattle.order.specs.Places.{section_in}
-use Rattle.order.specs.Automaton.{role_number, may_stand, moved, moved_by, stepped, after_point, only_if, on_or_out, type_at}
+use Rattle.order.specs.Automaton.{is_role, may_stand, moved, moved_in, stepped, after_point, only_if, on_or_out, type_at}
 use Rattle.order.specs.declared.Stage.{Stage}
 use Rattle.order_loops.specs.declared.LoopState.{LoopState}
 use Rattle.order.specs.declared.Phase.{Phase}
@@ -28,13 +31,12 @@ use Rattle.order.specs.declared.Phase.TheVariants.{AwaitTitle, AwaitName, Header
 use Rattle.order.specs.declared.State.{State}
 use Rattle.order.specs.declared.State.TheVariants.{Between, Inside}
 use Rattle.order.specs.declared.Reason.TheVariants.{Misplaced}
-use Rattle.order.specs.declared.Outcome.{Outcome}
-use Rattle.order.specs.declared.Outcome.TheVariants.{Next, Refused as Stops}
+use Rattle.order.specs.declared.Reason.{Reason}
 use Rattle.walk.specs.declared.JudgedLine.{JudgedLine}
-use Rattle.walk.specs.Judging.{refused_by, free_by, moved_row, filled_by, judged}
+use Rattle.walk.specs.Judging.{free_by, moved_row, filled_by, judged}
 use Rattle.walk.proofs.EveryLine.{every_line}
 
-abbrev Few : Outcome → Type 0
+abbrev Few : Result State Reason → Type 0
 Few (Next t) = section_in t ≤ 15
 Few (Stops e) = Unit {0}
 
@@ -51,27 +53,27 @@ module _ (g : Stage) (s : ℕ) (h : s ≤ 15) where
   few_point none = tt
   few_point (some l) = h
 
-  few_out : (b : Bool) (p : Phase) → Few (on_or_out g s b p)
+  few_out : (b : Bool) (p : Phase) → Few (Next (on_or_out g s b p))
   few_out true p = h
   few_out false p = omega arith
 
-  few_only : (b : Bool) (o : Outcome) → Few o → Few (only_if b o)
+  few_only : (b : Bool) (o : Result State Reason) → Few o → Few (only_if b o)
   few_only true o f = f
   few_only false o f = tt
 
-  few_points : (b : Bool) (x y : Outcome) → Few x → Few y → Few (cond b x y)
+  few_points : (b : Bool) (x y : Result State Reason) → Few x → Few y → Few (cond b x y)
   few_points true x y f i = f
   few_points false x y f i = i
 
-  few_moved : (p : Phase) (n : ℕ) (t : FileType) (d : Point) → Few (moved_by g s p n t d)
+  few_moved : (p : Phase) (n : Role) (t : FileType) (d : Point) → Few (moved_in g s p n t d)
   few_moved AwaitTitle n t d = h
   few_moved (AwaitName u) n t d = h
   few_moved (HeaderFull u) n t d = omega arith
   few_moved AwaitLead n t d = h
-  few_moved (InPoints l) n t d = few_points (eqb n 4) _ _ (few_point (loop_after (many_loops s) l d)) (few_only (complete l) _ (few_out (eqb n 5) InProps))
-  few_moved InProps n t d = few_out (eqb n 5) InProps
-  few_moved InList n t d = few_out (eqb n 6) InList
-  few_moved AwaitPart n t d = few_out (eqb n 7) AwaitPosition
+  few_moved (InPoints l) n t d = few_points (is_role n point) _ _ (few_point (loop_after (many_loops s) l d)) (few_only (complete l) _ (few_out (is_role n prop) InProps))
+  few_moved InProps n t d = few_out (is_role n prop) InProps
+  few_moved InList n t d = few_out (is_role n entry) InList
+  few_moved AwaitPart n t d = few_out (is_role n part) AwaitPosition
   few_moved AwaitPosition n t d = h
 
 few_stepped : (v : Rules) (st : State) (k : ℕ) (t : FileType) (d : Point) → section_in st ≤ 15 → Few (stepped v st k t d)
@@ -84,7 +86,7 @@ few_stepped v (Between g) k t d h = go (may_stand v (Between g) k)
 few_stepped v (Inside g s p) k t d h = go (may_stand v (Inside g s p) k)
   where
     go : (b : Bool) → Few (cond b (moved v (Inside g s p) k t d) (Stops Misplaced))
-    go true = few_moved g s h p (role_number (role_of v k)) t d
+    go true = few_moved g s h p (role_of v k) t d
     go false = tt
 
 abbrev Kept : JudgedLine → Type 0
@@ -95,17 +97,14 @@ kept_free (Between g) h = omega arith
 kept_free (Inside g s p) h = h
 
 module _ (v : Rules) (st : State) (h : section_in st ≤ 15) where
-  kept_moved : (row : List ℤ) (o : Outcome) → Few o → Kept (moved_row st row o)
+  kept_moved : (row : List ℤ) (o : Result State Reason) → Few o → Kept (moved_row st row o)
   kept_moved row (Next t) f = f
   kept_moved row (Stops e) f = h
 
-  kept_filled : (k : ℕ) (f : Filling) → Kept (filled_by v st k f)
+  kept_filled : (k : ℕ) (x : Result Filling Refusal) → Kept (filled_by v st k x)
   unfolding filled_by
-  kept_filled k f = go (eqb f.refused 0)
-    where
-      go : (b : Bool) → Kept (cond b (moved_row st f.row (stepped v st k (type_in_row f.row) (point_in f.row))) (refused_by st f.refused))
-      go true = kept_moved f.row (stepped v st k (type_in_row f.row) (point_in f.row)) (few_stepped v st k (type_in_row f.row) (point_in f.row) h)
-      go false = h
+  kept_filled k (Ok f) = kept_moved f.row (stepped v st k (type_in_row f.row) (point_in f.row)) (few_stepped v st k (type_in_row f.row) (point_in f.row) h)
+  kept_filled k (Err e) = h
 
   pub kept_judged : (b : ℕ) (s : List ℕ) → section_in (judged v st b s).state ≤ 15
-  kept_judged = every_line v st Kept (λ n i. h) (kept_free st h) (λ k b s m. kept_filled k (filled (under v (type_at st)) k b s m))
+  kept_judged = every_line v st Kept (λ e. h) (kept_free st h) (λ k b s m. kept_filled k (filled (under v (type_at st)) k b s m))

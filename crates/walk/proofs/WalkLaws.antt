@@ -48,7 +48,7 @@ module _ (file : List ℕ) (w : Walk) (h : Steady file w) where
         let n : e.next ≤ length (part_at file w) = rw i k in
         omega (arith, part_long file w h.within)
 
-    pub turn_is : (j : JudgedLine) (r : Turn) → j ≡ judged Idf3 w.state w.at (take e.content (part_at file w)) → r ≡ turned j (w.at + e.next) (w.line + 1)
+    pub turn_is : (j : JudgedLine) (r : Turn) → j ≡ judged Idf3 w.state w.at (take e.content (part_at file w)) → r ≡ turned j (w.at + e.next) w.line
         → r ≡ turn_of file w
     unfolding turn_of line_in
     turn_is j r a b = b ∙ rw (a, i, rest w.at file)
@@ -132,3 +132,11 @@ module _ (file : List ℕ) (w : Walk) (at : ℕ) (g : Going file w at) where
 
   pub going_end : length file ≤ at → trace_at file w ≡ done w
   going_end h = let k = g.here in trace_end file w (omega arith)
+
+-- an iterator over the lines of a file, a line on
+module _ (file : List ℕ) (w : Walk) (s : Steady file w) (h : w.at < length file) (t : Turn) (e : t ≡ turn_of file w) where
+  pub turn_steady : Steady file t.walk
+  turn_steady = (going_more file w w.at (record { steady = s; here = refl }) h t e).steady
+
+  pub turn_less : length file - t.walk.at < length file - w.at
+  turn_less = going_less file w w.at (record { steady = s; here = refl }) h t e

@@ -2,6 +2,7 @@
 use Rattle.std.specs.Prelude.{ℕ, zero, suc, ◌+◌, ◌-◌, ◌≤◌, List, Bool, true, false, cond, ltb, ℤ, length, take, drop}
 use Rattle.text.specs.Lines.{line_end}
 use Rattle.law.specs.declared.Rules.TheVariants.{Idf3}
+use Rattle.law.specs.Refusals.{number_of}
 use Rattle.order.specs.Places.{section_in}
 use Rattle.law.specs.Answers.{limit}
 use Rattle.order.specs.Automaton.{start}
@@ -22,13 +23,13 @@ line_in file w =
     let s = drop w.at file in
     judged Idf3 w.state w.at (take (line_end s).content s)
 
--- a step whose line was judged so; the next line, of this number, begins at a place
+-- a step whose line, of this number, was judged so; the next one begins at a place
 abbrev pub turned : JudgedLine → ℕ → ℕ → Turn
-turned j at line = record { found = j.found; row = j.row; walk = record { at = at; line = line; state = j.state } }
+turned j at line = record { found = j.found; row = j.row; line = line; walk = record { at = at; line = line + 1; state = j.state } }
 
 -- one step
 unfoldable pub turn_of : List ℕ → Walk → Turn
-turn_of file w = turned (line_in file w) (w.at + (line_end (drop w.at file)).next) (w.line + 1)
+turn_of file w = turned (line_in file w) (w.at + (line_end (drop w.at file)).next) w.line
 
 -- what a step can be taken from: a place in a file that is not too large, with a section that there is
 pub record Steady (file : List ℕ) (w : Walk) : Type 0 where
@@ -40,14 +41,14 @@ pub record Steady (file : List ℕ) (w : Walk) : Type 0 where
 abbrev pub stops_by : Found → Bool
 stops_by Row = false
 stops_by Nothing = false
-stops_by (Refused n) = true
+stops_by (Refused e) = true
 
 abbrev pub is_row : Found → Bool
 is_row Row = true
 is_row Nothing = false
-is_row (Refused n) = false
+is_row (Refused e) = false
 
--- what the lines of a file turn out to be, each with its number: no line is left; a refusal; a comment or blank; a row
+-- what the lines of a file turn out to be, each with its number: no line is left; a refusal's number; a comment or blank; a row
 pub data Trace : Type 0 where
   done : Walk → Trace
   stop : ℕ → ℕ → Trace
@@ -57,7 +58,7 @@ pub data Trace : Type 0 where
 abbrev pub trace_by : Found → ℕ → List ℤ → Trace → Trace
 trace_by Row l r t = row l r t
 trace_by Nothing l r t = skip l t
-trace_by (Refused n) l r t = stop n l
+trace_by (Refused e) l r t = stop (number_of e) l
 
 -- a walk of at most `fuel` lines
 unfoldable pub trace_in : ℕ → List ℕ → Walk → Trace

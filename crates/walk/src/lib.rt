@@ -4,14 +4,15 @@
 pub mod line;
 pub mod steps;
 
+use law::refusals::Refusal;
 use order::State;
 
-// What a line turned out to be: a record; a comment or blank between sections; refused with a number.
+// What a line turned out to be: a record; a comment or blank between sections; refused.
 #[derive(Clone, Copy)]
 pub enum Found {
     Row,
     Nothing,
-    Refused(u64),
+    Refused(Refusal),
 }
 
 // A line judged: what it is, its row if it is a record, and the state after it.
@@ -30,10 +31,11 @@ pub struct Walk {
     pub state: State,
 }
 
-// One step of a walk: what the line is, its row, and where the walk stands after it.
+// One step of a walk: what the line is, its row, its number, and where the walk stands after it.
 #[derive(Clone, Copy)]
 pub struct Turn {
     pub found: Found,
     pub row: [i64; rows::WIDTH],
+    pub line: u64,
     pub walk: Walk,
 }

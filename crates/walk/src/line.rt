@@ -1,22 +1,23 @@
-// One line of a file in a state: which record it is, its row, and the state after it, or the number of its refusal.
+// One line of a file in a state: which record it is, its row, and the state after it, or its refusal.
 ghost use Rattle.std.specs.Prelude.{◌≡◌, true, ◌+◌, ◌^◌, ◌≤◌, ◌<◌, length, take};
 ghost use Rattle.law.specs.Kinds.{role_of};
 ghost use Rattle.order.specs.Places.{section_in};
-ghost use Rattle.order.specs.Automaton.{role_number, may_stand};
+ghost use Rattle.order.specs.Automaton.{may_stand};
 ghost use Rattle.walk.specs.Judging.{refused_by, free_by, moved_row, filled_by, of_kind, data_by, judged};
 
 use crate::{Found, JudgedLine};
-use law::{Context, FileType, Rules, refusals};
+use law::refusals::Refusal;
+use law::{Context, FileType, Role, Rules};
 use line_rows::{Filling, LineKind};
-use order::{Outcome, State};
+use order::{Reason, State};
 use rows::WIDTH;
 
 // A refused line leaves the state as it is.
-fn refused(st: State, n: u64) -> JudgedLine
-    ensures { result ≡ refused_by st n }
+fn refused(st: State, e: Refusal) -> JudgedLine
+    ensures { result ≡ refused_by st e }
 {
     JudgedLine {
-        found: Found::Refused(n),
+        found: Found::Refused(e),
         row: [0; WIDTH],
         state: st,
     }
@@ -32,67 +33,61 @@ fn free(st: State) -> JudgedLine
             row: [0; WIDTH],
             state: st,
         },
-        State::Inside(..) => refused(st, refusals::MISPLACED),
+        State::Inside(..) => refused(st, Refusal::Misplaced),
     }
 }
 
 // What a record does: on to the next state, or its refusal.
-fn taken(st: State, row: [i64; WIDTH], o: Outcome) -> JudgedLine
+fn taken(st: State, row: [i64; WIDTH], o: Result<State, Reason>) -> JudgedLine
     ensures { result ≡ moved_row st row o }
 {
     match o {
-        Outcome::Next(t) => JudgedLine {
+        Ok(t) => JudgedLine {
             found: Found::Row,
             row: row,
             state: t,
         },
-        Outcome::Refused(e) => refused(st, order_states::refusal_number(e, refusals::MISPLACED)),
+        Err(e) => refused(st, order_states::refusal_of(e, Refusal::Misplaced)),
     }
 }
 
-// A line of a kind that may stand, whose fields were read.
-fn filled(v: Rules, st: State, kind: u64, role: u64, f: Filling) -> JudgedLine
-    requires { (may_stand v st kind ≡ true) × (role ≡ role_number (role_of v kind)) }
-    ensures { result ≡ filled_by v st kind f }
+// A line of a kind that may stand, whose fields were read into a row or refused.
+#[tactic(auto, using(crate::proofs::LineLaws::filled_laws))]
+fn filled(v: Rules, st: State, kind: u64, role: Role, read: Result<Filling, Refusal>) -> JudgedLine
+    requires { (may_stand v st kind ≡ true) × (role ≡ role_of v kind) }
+    ensures { result ≡ filled_by v st kind read }
 {
-    let n = f.refused;
-    if n != 0 {
-        return refused(st, n);
+    match read {
+        Ok(f) => {
+            let row = f.row;
+            let t = rows::file_type_in(row);
+            let d = rows::point_in(row);
+            taken(st, row, order_states::moved(v, st, kind, role, t, d))
+        }
+        Err(e) => refused(st, e),
     }
-    let row = f.row;
-    taken(
-        st,
-        row,
-        order_states::moved(
-            v,
-            st,
-            kind,
-            role,
-            rows::file_type_in(row),
-            rows::point_in(row),
-        ),
-    )
 }
 
 // A line of a kind and its role with n fields, the first of them from a place on; it starts at `base` in the file.
+#[tactic(auto, using(crate::proofs::LineLaws::kind_laws))]
 fn of_kind(
     v: Rules,
     st: State,
     kind: u64,
-    role: u64,
+    role: Role,
     s: &[u8],
     base: usize,
     n: usize,
     from: usize,
 ) -> JudgedLine
-    requires { (role ≡ role_number (role_of v kind)) × (from ≤ length s.now) × (base + length s.now < 2 ^ 62) }
+    requires { (role ≡ role_of v kind) × (from ≤ length s.now) × (base + length s.now < 2 ^ 62) }
     ensures { result ≡ of_kind v st kind s.now base n from }
 {
     if !order_states::may_stand(v, st, kind, role) {
-        return refused(st, refusals::MISPLACED);
+        return refused(st, Refusal::Misplaced);
     }
     if n != form_layouts::field_count(v, kind) {
-        return refused(st, refusals::FIELD_COUNT);
+        return refused(st, Refusal::FieldCount);
     }
     let c = Context {
         rules: v,
@@ -108,6 +103,7 @@ fn of_kind(
 }
 
 // A data line of n fields: its place is its kind, and PROP itself is no field.
+#[tactic(auto, using(crate::proofs::LineLaws::data_laws))]
 fn data(
     v: Rules,
     st: State,
@@ -122,7 +118,7 @@ fn data(
 {
     let kind = order_kinds::data_kind(v, st, marked);
     let role = order_kinds::role_of(v, kind);
-    if role == 5 {
+    if role == Role::Prop {
         of_kind(v, st, kind, role, s, base, n - 1, after)
     } else {
         of_kind(v, st, kind, role, s, base, n, 0)
@@ -130,19 +126,20 @@ fn data(
 }
 
 // A line that starts at `base` in the file.
+#[tactic(auto, using(crate::proofs::LineLaws::judged_laws))]
 fn line(v: Rules, st: State, s: &[u8], base: usize) -> JudgedLine
     requires { (section_in st ≤ 15) × (base + length s.now < 2 ^ 62) }
     ensures { result ≡ judged v st base s.now }
 {
     match line_rows::looks::line_kind(s) {
-        LineKind::Free => free(st),
-        LineKind::Bad(n) => refused(st, n),
-        LineKind::Key(w, n, after) => {
+        Ok(LineKind::Free) => free(st),
+        Ok(LineKind::Key(w, n, after)) => {
             let kind = order_kinds::key_kind(v, w);
             let role = order_kinds::role_of(v, kind);
             of_kind(v, st, kind, role, s, base, n - 1, after)
         }
-        LineKind::Data(marked, n, after) => data(v, st, s, base, marked, n, after),
+        Ok(LineKind::Data(marked, n, after)) => data(v, st, s, base, marked, n, after),
+        Err(e) => refused(st, e),
     }
 }
 

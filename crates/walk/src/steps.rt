@@ -1,5 +1,6 @@
 // The steps of a walk. Every loop over files is made of them.
-ghost use Rattle.std.specs.Prelude.{◌≡◌};
+ghost use Rattle.std.specs.Prelude.{◌≡◌, ◌^◌, ◌≤◌, ◌<◌, length};
+ghost use Rattle.law.specs.Answers.{limit};
 ghost use Rattle.walk.specs.Walks.{begun, turned, turn_of, Steady, stops_by, is_row};
 
 use crate::{Found, JudgedLine, Turn, Walk, line};
@@ -17,15 +18,24 @@ pub fn begin() -> Walk
     }
 }
 
-// A step whose line was judged so; the next line, of this number, begins at `at`.
+// A step whose line, of this number, was judged so; the next one begins at `at`.
 fn behind(j: JudgedLine, at: usize, line: u64) -> Turn
+    requires { line < 2 ^ 62 }
     ensures { result ≡ turned j at line }
 {
     let found = j.found;
     let row = j.row;
-    let state = j.state;
-    let walk = Walk { at, line, state };
-    Turn { found, row, walk }
+    let walk = Walk {
+        at,
+        line: line + 1,
+        state: j.state,
+    };
+    Turn {
+        found,
+        row,
+        line,
+        walk,
+    }
 }
 
 // The next line of a file.
@@ -34,31 +44,63 @@ pub fn turn(file: &[u8], w: Walk) -> Turn
     ensures { result ≡ turn_of file.now w }
 {
     let at = w.at;
-    let line = w.line;
-    let st = w.state;
     let e = text::line_end(&file[at..]);
-    let j = line::judge_line(Rules::Idf3, st, &file[at..], at, e.content);
-    behind(j, at + e.next, line + 1)
+    let j = line::judge_line(Rules::Idf3, w.state, &file[at..], at, e.content);
+    behind(j, at + e.next, w.line)
+}
+
+// The lines of a file that are left to a walk, each judged in the state before it.
+#[derive(Clone, Copy)]
+pub struct Turns<'a> {
+    file: &'a [u8],
+    walk: Walk,
+    ghost steady: { Steady file.now walk },
+}
+
+impl<'a> Turns<'a> {
+    // All lines of a file.
+    pub fn of(file: &'a [u8]) -> Turns<'a>
+        requires { length file.now ≤ limit }
+        ensures lent { result.file ≡ file.entry }
+        ensures whole { result.file.now ≡ file.now }
+        ensures first { result.walk ≡ begun }
+    {
+        let walk = begin();
+        Turns { file, walk }
+    }
+}
+
+impl<'a> Iterator for Turns<'a> {
+    ghost use Rattle.walk.specs.Turns.{GivesTurn, bytes_left};
+
+    type Item = Turn;
+
+    ghost next_gives = { GivesTurn };
+
+    ghost remaining = { bytes_left };
+
+    // The next line. In line, so that a loop over the iterator is the loop over `turn` and no line is copied once more.
+    #[inline(always)]
+    fn next(&mut self) -> Option<Turn> {
+        if self.file.len() <= self.walk.at {
+            return None;
+        }
+        let t = turn(self.file, self.walk);
+        self.walk = t.walk;
+        Some(t)
+    }
 }
 
 // Whether a line was refused.
 pub fn stops(f: Found) -> bool
     ensures { result ≡ stops_by f }
 {
-    match f {
-        Found::Row => false,
-        Found::Nothing => false,
-        Found::Refused(..) => true,
-    }
+    matches!(f, Found::Refused(_))
 }
 
 // Whether a line was a record.
 pub fn is_row(f: Found) -> bool
     ensures { result ≡ is_row f }
 {
-    match f {
-        Found::Row => true,
-        Found::Nothing => false,
-        Found::Refused(..) => false,
-    }
+    matches!(f, Found::Row)
 }

@@ -22,8 +22,8 @@ use Rattle.law.specs.declared.FieldType.{FieldType}
 use Rattle.law.specs.declared.FieldType.TheVariants.{Text as T, Date as D, Integer as I, Number as N, Word as W}
 use Rattle.order.specs.Automaton.{accepted, type_at, stepped}
 use Rattle.order.specs.declared.State.{State}
-use Rattle.order.specs.declared.Outcome.{Outcome}
-use Rattle.order.specs.declared.Outcome.TheVariants.{Next, Refused}
+use Rattle.order.specs.declared.Reason.{Reason}
+use Rattle.std.specs.Prelude.{Result, Ok as Next, Err as Refused}
 use Rattle.order.specs.declared.Reason.TheVariants.{Unfit}
 use Rattle.rows_texts.specs.Texts.{text_at}
 use Rattle.write_columns.specs.Columns.{lies_in, range_fits, field_fits, column_fits, fields_fit, kind_in, row_fits}
@@ -84,7 +84,7 @@ module _ (v : Rules) (bytes : List ℕ) where
   carries_fit [] st h = refl
   carries_fit (x ∷ xs) st h = go (row_fits (under v (type_at st)) bytes x) refl (stepped v st (kind_in x) (type_in_row x) (point_in x)) h (λ t k. carries_fit xs t k)
     where
-      go : (b : Bool) → row_fits (under v (type_at st)) bytes x ≡ b → (o : Outcome) → accepted (cond b o (Refused Unfit)) (λ t. carries v bytes t xs) ≡ true
+      go : (b : Bool) → row_fits (under v (type_at st)) bytes x ≡ b → (o : Result State Reason) → accepted (cond b o (Refused Unfit)) (λ t. carries v bytes t xs) ≡ true
           → ((t : State) → carries v bytes t xs ≡ true → all_fit v bytes xs ≡ true) → row_fits (anywhere v) bytes x && all_fit v bytes xs ≡ true
       go true e (Next t) k rec = and_both _ _ (row_any v (type_at st) bytes x e) (rec t k)
       go true e (Refused r) k rec = absurd (false≢true k)

@@ -9,9 +9,9 @@ use mir.Syntax.{w64}
 use mir.Val.{SFits}
 use mir.ValLaws.{to_z-of_z}
 use borrow.Author.Tests.{not-true, not-false}
-use lib.IntN.{ℤ, pos, nat_abs}
-use lib.ListN.{length, take, drop, set, get_or, length-drop, length-set, drop_of_length-le}
-use lib.Seq.{take-suc, take-suc-set, take_all, get_or-drop, drop-drop}
+use lib.IntN.{ℤ, nat_abs}
+use lib.ListN.{length, take, drop, drop_of_length-le}
+use lib.Seq.{drop-drop}
 use Rattle.rows.specs.Columns.{type_in_row, point_in, kind_column}
 use Rattle.rows.specs.declared.Point.{Point}
 use Rattle.basics.proofs.Integers.{back}
@@ -23,52 +23,10 @@ use Rattle.order.specs.Automaton.{start, accepting, accepted, type_at, stepped}
 use Rattle.order.specs.declared.State.{State}
 use Rattle.order.specs.declared.Reason.{Reason}
 use Rattle.order.specs.declared.Reason.TheVariants.{Unfit}
-use Rattle.order.specs.declared.Outcome.{Outcome}
-use Rattle.order.specs.declared.Outcome.TheVariants.{Next, Refused}
+use Rattle.std.specs.Prelude.{Result, Ok as Next, Err as Refused}
 use Rattle.write_columns.specs.Columns.{row_fits}
-use Rattle.write.specs.declared.Stood.{Stood}
 use Rattle.write.specs.WholeRows.{chunks, whole_rows, row_in}
-use Rattle.write.specs.Writable.{row_step, stood_by, carries}
-
--- a row copied number by number
-pub record Copied (rows : List ℤ) (at : ℕ) (row : List ℤ) (k : ℕ) : Type 0 where
-  pub within : k ≤ width
-  pub long : length row ≡ width
-  pub is : take k row ≡ take k (drop at rows)
-
-pub copy_start : (rows row : List ℤ) (at : ℕ) → length row ≡ width → Copied rows at row 0
-copy_start rows row at e = record { within = omega arith; long = e; is = refl }
-
-module _ (rows row : List ℤ) (i k : ℕ) (r : Copied rows (i * stride) row k) where
-  module _ (q : i < capacity (length rows)) where
-    whole_in : i * stride + width ≤ length rows
-    whole_in = omega arith
-
-    pub copy_place : k < width → i * stride + k < length rows
-    copy_place h = omega (arith, whole_in)
-
-    pub copy_more : k < width → SFits w64 (get_or rows (i * stride + k) (pos 0)) → Copied rows (i * stride) (set row k (back (get_or rows (i * stride + k) (pos 0)))) (k + 1)
-    copy_more h f =
-        let x = get_or rows (i * stride + k) (pos 0) in
-        let m : k < length (drop (i * stride) rows) = omega (arith, length-drop (i * stride) rows, whole_in) in
-        let w : k < length row = omega (arith, r.long) in
-        record {
-          within = omega arith;
-          long = length-set row k (back x) ∙ r.long;
-          is =
-              ap (λ (n : ℕ). take n (set row k (back x))) (add-one k) ∙ take-suc-set row k (back x) w
-              ∙ rw (to_z-of_z w64 x f, r.is, sym (get_or-drop (i * stride) rows k (pos 0))) (sym (take-suc (drop (i * stride) rows) k (pos 0) m))
-              ∙ ap (λ (n : ℕ). take n (drop (i * stride) rows)) (sym (add-one k));
-        }
-
-  pub copy_over : width ≤ k → row ≡ row_in rows i
-  copy_over h =
-      let e : k ≡ width = omega (arith, r.within) in
-      let l : length row ≤ width = omega (arith, r.long) in
-      sym (take_all width row l) ∙ rw e at r.is
-
-pub row_place : (rows : List ℤ) (i : ℕ) → i < capacity (length rows) → i * stride + width ≤ length rows
-row_place rows i h = omega arith
+use Rattle.write.specs.Writable.{row_step, carries}
 
 -- a number of rows, as the code asks for it
 module _ (rows : List ℤ) (n i : ℕ) (e : n ≡ capacity (length rows)) where
@@ -112,27 +70,10 @@ module _ (v : Rules) (bytes : List ℕ) (st : State) (row : List ℤ) (f : FileT
   unfolding row_step
   step_unfit h = rw (sym fits_is ∙ not-true x h)
 
-  pub step_goes : (k : ℕ) (t : FileType) (d : Point) (o : Outcome) → not x ≡ false → SFits w64 (kind_column row) → k ≡ nat_abs (back (kind_column row)) → t ≡ type_in_row row → d ≡ point_in row
+  pub step_goes : (k : ℕ) (t : FileType) (d : Point) (o : Result State Reason) → not x ≡ false → SFits w64 (kind_column row) → k ≡ nat_abs (back (kind_column row)) → t ≡ type_in_row row → d ≡ point_in row
       → o ≡ stepped v st k t d → o ≡ row_step v bytes st row
   unfolding row_step
   step_goes k t d o h s i j m n = rw (sym fits_is ∙ not-false x h) (n ∙ rw (i, j, m, to_z-of_z w64 (kind_column row) s))
-
-module _ (st : State) (o : Outcome) where
-  pub stood_next : (t : State) → o ≡ Next t → record { good = true; state = t } ≡ stood_by st o
-  stood_next t h = rw h
-
-  pub stood_not : (e : Reason) → o ≡ Refused e → record { good = false; state = st } ≡ stood_by st o
-  stood_not e h = rw h
-
--- rows from a state on
-module _ (v : Rules) (bytes : List ℕ) (xs : List (List ℤ)) (st : State) where
-  stood_good : (o : Outcome) → (stood_by st o).good ≡ true → accepted o (λ t. carries v bytes t xs) ≡ carries v bytes (stood_by st o).state xs
-  stood_good (Next t) h = refl
-  stood_good (Refused e) h = absurd (false≢true h)
-
-  stood_bad : (o : Outcome) → (stood_by st o).good ≡ false → accepted o (λ t. carries v bytes t xs) ≡ false
-  stood_bad (Next t) h = absurd (true≢false h)
-  stood_bad (Refused e) h = refl
 
 pub record Carrying (v : Rules) (rows : List ℤ) (bytes : List ℕ) (st : State) (i : ℕ) : Type 0 where
   pub left : carries v bytes st (drop i (whole_rows rows)) ≡ carries v bytes start (whole_rows rows)
@@ -145,17 +86,16 @@ module _ (v : Rules) (rows : List ℤ) (bytes : List ℕ) (i : ℕ) (st : State)
   unfolding carries
   carry_over x h e = e ∙ rw (row_none rows i h) at r.left
 
-  module _ (h : i < capacity (length rows)) (row : List ℤ) (a : row ≡ row_in rows i) (o : Outcome) (b : o ≡ row_step v bytes st row) (s : Stood) (c : s ≡ stood_by st o) where
-    here : carries v bytes st (drop i (whole_rows rows)) ≡ accepted o (λ t. carries v bytes t (drop (i + 1) (whole_rows rows)))
+  module _ (h : i < capacity (length rows)) (row : List ℤ) (a : row ≡ row_in rows i) (o : Result State Reason) (b : o ≡ row_step v bytes st row) where
+    abbrev after : Result State Reason → Bool
+    after p = accepted p (λ t. carries v bytes t (drop (i + 1) (whole_rows rows)))
+
+    here : carries v bytes st (drop i (whole_rows rows)) ≡ after o
     unfolding carries
     here = rw (row_here rows i h, b, a)
 
-    pub carry_stop : not s.good ≡ true → false ≡ carries v bytes start (whole_rows rows)
-    carry_stop k =
-        let z : (stood_by st o).good ≡ false = sym (ap (λ (y : Stood). y.good) c) ∙ not-true s.good k in
-        sym (here ∙ stood_bad v bytes (drop (i + 1) (whole_rows rows)) st o z) ∙ r.left
+    pub carry_stop : (e : Reason) → o ≡ Refused e → false ≡ carries v bytes start (whole_rows rows)
+    carry_stop e k = sym (here ∙ ap after k) ∙ r.left
 
-    pub carry_more : not s.good ≡ false → Carrying v rows bytes s.state (i + 1)
-    carry_more k =
-        let z : (stood_by st o).good ≡ true = sym (ap (λ (y : Stood). y.good) c) ∙ not-false s.good k in
-        record { left = rw c (sym (here ∙ stood_good v bytes (drop (i + 1) (whole_rows rows)) st o z) ∙ r.left) }
+    pub carry_more : (t : State) → o ≡ Next t → Carrying v rows bytes t (i + 1)
+    carry_more t k = record { left = sym (here ∙ ap after k) ∙ r.left }

@@ -1,5 +1,5 @@
 -- Which rows, over the bytes lent with them, are a list that a file may say: each row by its state, and no name used twice.
-use Rattle.std.specs.Prelude.{ℕ, List, [], ◌∷◌, Bool, true, false, cond, not, ◌&&◌, ◌||◌, ℤ}
+use Rattle.std.specs.Prelude.{ℕ, List, [], ◌∷◌, Bool, true, false, cond, not, ◌&&◌, ◌||◌, ℤ, Result, Ok as Next, Err as Refused}
 use Rattle.rows_texts.specs.Names.{same_names}
 use Rattle.rows.specs.RowKinds.{leads_component}
 use Rattle.rows.specs.Columns.{type_in_row, point_in}
@@ -8,18 +8,12 @@ use Rattle.law.specs.declared.Rules.{Rules}
 use Rattle.order.specs.Automaton.{start, accepting, accepted, type_at, stepped}
 use Rattle.order.specs.declared.State.{State}
 use Rattle.order.specs.declared.Reason.TheVariants.{Unfit}
-use Rattle.order.specs.declared.Outcome.{Outcome}
-use Rattle.order.specs.declared.Outcome.TheVariants.{Next, Refused}
+use Rattle.order.specs.declared.Reason.{Reason}
 use Rattle.write_columns.specs.Columns.{kind_in, row_fits}
-use Rattle.write.specs.declared.Stood.{Stood}
 
 -- what a row does in a state: its values fit there, and it goes on as a line with these values would
-unfoldable pub row_step : Rules → List ℕ → State → List ℤ → Outcome
+unfoldable pub row_step : Rules → List ℕ → State → List ℤ → Result State Reason
 row_step v bytes st x = cond (row_fits (under v (type_at st)) bytes x) (stepped v st (kind_in x) (type_in_row x) (point_in x)) (Refused Unfit)
-
-abbrev pub stood_by : State → Outcome → Stood
-stood_by st (Next t) = record { good = true; state = t }
-stood_by st (Refused e) = record { good = false; state = st }
 
 -- rows carry a state to one where a file may end
 unfoldable pub carries : Rules → List ℕ → State → List (List ℤ) → Bool

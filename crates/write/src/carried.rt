@@ -3,11 +3,10 @@ ghost use Rattle.std.specs.Prelude.{◌≡◌, ◌<◌, length};
 ghost use Rattle.law.specs.Rows.{capacity};
 ghost use Rattle.order.specs.Automaton.{start};
 ghost use Rattle.write.specs.WholeRows.{whole_rows, row_in};
-ghost use Rattle.write.specs.Writable.{row_step, stood_by, carries};
+ghost use Rattle.write.specs.Writable.{row_step, carries};
 
-use crate::Stood;
 use law::{Context, Rules};
-use order::{Outcome, Reason, Stage, State};
+use order::{Reason, Stage, State};
 use rows::{STRIDE, WIDTH};
 
 // A row, counted from 0.
@@ -17,17 +16,12 @@ pub(crate) fn row_at(rows: &[i64], i: usize) -> [i64; WIDTH]
 {
     let mut row = [0; WIDTH];
     let at = i * STRIDE;
-    let mut k = 0;
-    while k < WIDTH {
-        let z = rows[at + k];
-        row[k] = z;
-        k += 1;
-    }
+    row.copy_from_slice(&rows[at..at + WIDTH]);
     row
 }
 
 // What a row does in a state.
-fn step(v: Rules, bytes: &[u8], st: State, row: [i64; WIDTH]) -> Outcome
+fn step(v: Rules, bytes: &[u8], st: State, row: [i64; WIDTH]) -> Result<State, Reason>
     ensures { result ≡ row_step v bytes.now st row }
 {
     let c = Context {
@@ -35,26 +29,10 @@ fn step(v: Rules, bytes: &[u8], st: State, row: [i64; WIDTH]) -> Outcome
         file: order_states::type_at(st),
     };
     if !write_columns::row_fits(c, bytes, row) {
-        return Outcome::Refused(Reason::Unfit);
+        return Err(Reason::Unfit);
     }
     let kind = number::magnitude(row[rows::KIND]);
     order_states::stepped(v, st, kind, rows::file_type_in(row), rows::point_in(row))
-}
-
-// Whether a row stands, and the state after it.
-fn stood(st: State, o: Outcome) -> Stood
-    ensures { result ≡ stood_by st o }
-{
-    match o {
-        Outcome::Next(t) => Stood {
-            good: true,
-            state: t,
-        },
-        Outcome::Refused(_) => Stood {
-            good: false,
-            state: st,
-        },
-    }
 }
 
 // Whether rows are in a file's order, with values that fit, up to where it may end.
@@ -63,15 +41,11 @@ pub(crate) fn carry(v: Rules, rows: &[i64], bytes: &[u8]) -> bool
 {
     let n = rows::capacity(rows.len());
     let mut st = State::Between(Stage::Nothing);
-    let mut i = 0;
-    while i < n {
-        let s = stood(st, step(v, bytes, st, row_at(rows, i)));
-        let good = s.good;
-        if !good {
-            return false;
+    for i in 0..n {
+        match step(v, bytes, st, row_at(rows, i)) {
+            Ok(next) => st = next,
+            Err(_) => return false,
         }
-        st = s.state;
-        i += 1;
     }
     order_states::accepting(st)
 }

@@ -6,12 +6,3 @@ pub mod numbers;
 pub mod repeats;
 pub mod texts;
 pub mod whole;
-
-use order::State;
-
-// What a row did: whether it stands, and the state after it.
-#[derive(Clone, Copy)]
-pub struct Stood {
-    pub good: bool,
-    pub state: State,
-}

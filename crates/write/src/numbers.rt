@@ -5,7 +5,7 @@ ghost use Rattle.write.specs.LineNumbers.{all_rise};
 
 use rows::{STRIDE, WIDTH};
 
-// Whether a number is above another.
+// Whether a number is above another; by itself, so that the edit `rise_twice_the_same` changes what a line is held to.
 fn is_above(line: i64, last: i64) -> bool
     ensures { result ≡ lt_z last line }
 {
@@ -18,14 +18,12 @@ pub(crate) fn rise(rows: &[i64]) -> bool
 {
     let n = rows::capacity(rows.len());
     let mut last = 0;
-    let mut i = 0;
-    while i < n {
+    for i in 0..n {
         let line = rows[i * STRIDE + WIDTH];
         if !is_above(line, last) {
             return false;
         }
         last = line;
-        i += 1;
     }
     true
 }

@@ -1,5 +1,5 @@
 // Components by name, among rows: no two share both geometry and part.
-ghost use Rattle.std.specs.Prelude.{◌≡◌, ◌<◌, length, drop};
+ghost use Rattle.std.specs.Prelude.{◌≡◌, ◌<◌, ◌*◌, ◌^◌, length, drop};
 ghost use Rattle.rows_texts.specs.Names.{key_of};
 ghost use Rattle.rows.specs.RowKinds.{leads_component};
 ghost use Rattle.names.specs.Marks.{held_if, marked_if};
@@ -27,12 +27,10 @@ fn named_from(rows: &[i64], bytes: &[u8], from: usize, x: [i64; WIDTH]) -> bool
     ensures { result ≡ named_in bytes.now x (drop from (whole_rows rows.now)) }
 {
     let n = rows::capacity(rows.len());
-    let mut i = from;
-    while i < n {
+    for i in from..n {
         if names_it(bytes, x, carried::row_at(rows, i)) {
             return true;
         }
-        i += 1;
     }
     false
 }
@@ -59,16 +57,14 @@ fn names_again(
 
 // Whether two rows name one doubtful component, from the last row back; `marks` are those of the doubtful names behind.
 fn twice_among(rows: &[i64], bytes: &[u8], doubts: &[u16], marks: &mut [u16]) -> bool
-    requires { (0 < length doubts.now) × (0 < length marks.old) }
+    requires doubts { 0 < length doubts.now }
+    requires marks { 0 < length marks.old }
     ensures { result ≡ twice_among bytes.now doubts.now (whole_rows rows.now) }
 {
-    let mut i = rows::capacity(rows.len());
-    while 0 < i {
-        let at = i - 1;
-        if names_again(rows, bytes, i, carried::row_at(rows, at), doubts, marks) {
+    for i in (0..rows::capacity(rows.len())).rev() {
+        if names_again(rows, bytes, i + 1, carried::row_at(rows, i), doubts, marks) {
             return true;
         }
-        i = at;
     }
     false
 }
@@ -76,23 +72,22 @@ fn twice_among(rows: &[i64], bytes: &[u8], doubts: &[u16], marks: &mut [u16]) ->
 // Whether a row's name is doubtful, from the last row back; `marks` are those of the names behind, `doubts` those of the names
 // that may have come behind them.
 fn doubted(rows: &[i64], bytes: &[u8], marks: &mut [u16], doubts: &mut [u16]) -> bool
-    requires { (0 < length marks.old) × (0 < length doubts.old) }
+    requires marks { 0 < length marks.old }
+    requires doubts { 0 < length doubts.old }
     ensures { Doubted bytes.now doubts.new (whole_rows rows.now) result }
 {
-    let mut i = rows::capacity(rows.len());
     let mut doubtful = false;
-    while 0 < i {
-        let at = i - 1;
-        let row = carried::row_at(rows, at);
-        doubtful = doubtful | is_doubtful(bytes, leads_component(row), row, marks, doubts);
-        i = at;
+    for i in (0..rows::capacity(rows.len())).rev() {
+        let row = carried::row_at(rows, i);
+        doubtful |= is_doubtful(bytes, leads_component(row), row, marks, doubts);
     }
     doubtful
 }
 
 // Whether two rows name one component; doubtful names are gone through again, where there are any.
 fn twice_by(rows: &[i64], bytes: &[u8], marks: &mut [u16], doubts: &mut [u16]) -> bool
-    requires { (0 < length marks.old) × (0 < length doubts.old) }
+    requires marks { 0 < length marks.old }
+    requires doubts { 0 < length doubts.old }
     ensures { result ≡ twice bytes.now (whole_rows rows.now) }
 {
     if !doubted(rows, bytes, marks, doubts) {
@@ -102,20 +97,13 @@ fn twice_by(rows: &[i64], bytes: &[u8], marks: &mut [u16], doubts: &mut [u16]) -
     twice_among(rows, bytes, doubts, &mut again)
 }
 
-// The same with few marks at hand.
-fn twice_by_few(rows: &[i64], bytes: &[u8]) -> bool
+// The same with N marks at hand.
+fn twice_within<const N: usize>(rows: &[i64], bytes: &[u8]) -> bool
+    requires some { 0 < N }
+    requires fits { N * 2 < 2 ^ 63 }
     ensures { result ≡ twice bytes.now (whole_rows rows.now) }
 {
-    let mut marks: [u16; FEW] = [0; FEW];
-    let mut doubts: [u16; DOUBTS] = [0; DOUBTS];
-    twice_by(rows, bytes, &mut marks, &mut doubts)
-}
-
-// The same with all marks.
-fn twice_by_all(rows: &[i64], bytes: &[u8]) -> bool
-    ensures { result ≡ twice bytes.now (whole_rows rows.now) }
-{
-    let mut marks: [u16; MARKS] = [0; MARKS];
+    let mut marks: [u16; N] = [0; N];
     let mut doubts: [u16; DOUBTS] = [0; DOUBTS];
     twice_by(rows, bytes, &mut marks, &mut doubts)
 }
@@ -125,7 +113,7 @@ pub(crate) fn some_twice(rows: &[i64], bytes: &[u8]) -> bool
     ensures { result ≡ twice bytes.now (whole_rows rows.now) }
 {
     if rows.len() < SMALL {
-        return twice_by_few(rows, bytes);
+        return twice_within::<FEW>(rows, bytes);
     }
-    twice_by_all(rows, bytes)
+    twice_within::<MARKS>(rows, bytes)
 }

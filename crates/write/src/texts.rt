@@ -16,27 +16,24 @@ pub(crate) fn text_len(v: Rules, rows: &[i64], bytes: &[u8]) -> usize
 {
     let n = rows::capacity(rows.len());
     let mut sum = 0;
-    let mut i = 0;
-    while i < n {
+    for i in 0..n {
         sum = write_lines::line_len(v, bytes, carried::row_at(rows, i), sum);
         if LIMIT < sum {
             return sum;
         }
-        i += 1;
     }
     sum
 }
 
 // The lines of rows, from the front of the slice on.
 pub(crate) fn put_text(out: &mut [u8], v: Rules, rows: &[i64], bytes: &[u8])
-    requires { (all_fit v bytes.now (whole_rows rows.now) ≡ true) × (length (text_of v bytes.now (whole_rows rows.now)) ≤ length out.old) }
+    requires fits { all_fit v bytes.now (whole_rows rows.now) ≡ true }
+    requires room { length (text_of v bytes.now (whole_rows rows.now)) ≤ length out.old }
     ensures { out.new ≡ sets out.old 0 (text_of v bytes.now (whole_rows rows.now)) }
 {
     let n = rows::capacity(rows.len());
     let mut at = 0;
-    let mut i = 0;
-    while i < n {
+    for i in 0..n {
         at = write_lines::put_line(out, at, v, bytes, carried::row_at(rows, i));
-        i += 1;
     }
 }

@@ -4,7 +4,8 @@ ghost use Rattle.law.specs.Answers.{reply};
 ghost use Rattle.write.specs.Outcomes.{may_write, write_reply, write_text};
 
 use crate::{carried, numbers, repeats, texts};
-use law::{Reply, Rules, refusals};
+use law::refusals::Refusal;
+use law::{Reply, Rules};
 use order::LIMIT;
 
 // A reply without a line.
@@ -12,9 +13,9 @@ fn answer(number: u64, count: u64) -> Reply
     ensures { result ≡ reply number 0 count }
 {
     Reply {
-        number: number,
+        number,
         line: 0,
-        count: count,
+        count,
     }
 }
 
@@ -38,14 +39,14 @@ pub fn write(rows: &[i64], text: &[u8], out: &mut [u8]) -> Reply
     ensures out_after { out.new ≡ write_text rows.now text.now out.old }
 {
     if !is_writable(Rules::Idf3, rows, text) {
-        return answer(refusals::NO_LIST, 0);
+        return answer(Refusal::NoList.number(), 0);
     }
     let n = texts::text_len(Rules::Idf3, rows, text);
     if LIMIT < n {
-        return answer(refusals::TOO_LARGE, 0);
+        return answer(Refusal::TooLarge.number(), 0);
     }
     if out.len() < n {
-        return answer(refusals::SHORT_TEXT, n as u64);
+        return answer(Refusal::ShortText.number(), n as u64);
     }
     texts::put_text(out, Rules::Idf3, rows, text);
     answer(0, n as u64)

@@ -11,13 +11,15 @@ use mir.ValLaws.{to_z-of_z}
 use borrow.Author.Tests.{not-true, not-false, lt-leb, le-leb, leb-true, ne_eqb}
 use lib.Dec.{leb, eqb}
 use lib.IntN.{ℤ, pos, nat_abs}
-use lib.ListN.{length, take, drop, get_or, drop_of_length-le}
+use lib.ListN.{length, take, drop, drop_of_length-le}
 use lib.Seq.{drop-cons}
 use Rattle.rows.specs.Columns.{column_at}
 use Rattle.basics.proofs.Meanings.{date_meaning, meaning_good}
 use Rattle.basics.specs.Integers.{eq_z}
-use Rattle.basics.proofs.Integers.{back}
-use Rattle.basics.proofs.Lists.{all_more, all_stop, all_over}
+use Rattle.basics.proofs.Integers.{back, eq_z_same, eq_z_differ}
+use Rattle.number_print.proofs.PrintLaws.{below_zero}
+use Rattle.std.specs.List.{list_all}
+use lib.Signed.{lt_z}
 use Rattle.basics.proofs.Bools.{and_left, and_right}
 use Rattle.law.specs.Bytes.{all_of, permitted}
 use Rattle.law.specs.Limits.{largest_integer, below}
@@ -41,15 +43,15 @@ pub text_byte_lem : (b : ℕ) (x : Bool) → x ≡ permitted b → (x && not (eq
 text_byte_lem b x e = rw e
 
 -- a range
-module _ (n : ℕ) (a l : ℤ) (x y : Bool) (fa : SFits w64 a) (fl : SFits w64 l) (e : x ≡ below (back a)) (f : y ≡ below (back l)) where
-  signs : (x || y) ≡ (below a || below l)
-  signs = rw (e, f, to_z-of_z w64 a fa, to_z-of_z w64 l fl)
+module _ (n : ℕ) (a l : ℤ) (fa : SFits w64 a) (fl : SFits w64 l) where
+  signs : (lt_z (back a) (pos 0) || lt_z (back l) (pos 0)) ≡ (below a || below l)
+  signs = rw (below_zero a fa, below_zero l fl)
 
-  pub lies_below : (x || y) ≡ true → false ≡ lies_in n a l
+  pub lies_below : (lt_z (back a) (pos 0) || lt_z (back l) (pos 0)) ≡ true → false ≡ lies_in n a l
   unfolding lies_in
   lies_below h = rw (sym signs ∙ h)
 
-  module _ (h : (x || y) ≡ false) (m : ℕ) (i : m ≡ nat_abs (back l)) where
+  module _ (h : (lt_z (back a) (pos 0) || lt_z (back l) (pos 0)) ≡ false) (m : ℕ) (i : m ≡ nat_abs (back l)) where
     long : m ≡ nat_abs l
     long = i ∙ ap nat_abs (to_z-of_z w64 l fl)
 
@@ -72,15 +74,15 @@ unfolding is_empty
 empty_length [] = refl
 empty_length (b ∷ s) = rw (ne_eqb (suc (length s)) 0 (λ h. omega arith))
 
-module _ (v : Rules) (l : Words) (z : ℤ) (x : Bool) (f : SFits w64 z) (e : x ≡ below (back z)) where
-  pub word_below : x ≡ true → false ≡ word_fits v l z
+module _ (v : Rules) (l : Words) (z : ℤ) (f : SFits w64 z) where
+  pub word_below : lt_z (back z) (pos 0) ≡ true → false ≡ word_fits v l z
   unfolding word_fits
-  word_below h = rw (sym (ap below (to_z-of_z w64 z f)) ∙ sym e ∙ h)
+  word_below h = rw (sym (below_zero z f) ∙ h)
 
-  pub word_by : (m : ℕ) (row : List ℕ) (n : ℕ) → x ≡ false → m ≡ nat_abs (back z) → row ≡ word_row v l m → n ≡ length (trimmed row) → not (eqb n 0) ≡ word_fits v l z
+  pub word_by : (m : ℕ) (row : List ℕ) (n : ℕ) → lt_z (back z) (pos 0) ≡ false → m ≡ nat_abs (back z) → row ≡ word_row v l m → n ≡ length (trimmed row) → not (eqb n 0) ≡ word_fits v l z
   unfolding word_fits
   word_by m row n h i j k =
-      let a : below z ≡ false = sym (ap below (to_z-of_z w64 z f)) ∙ sym e ∙ h in
+      let a : below z ≡ false = sym (below_zero z f) ∙ h in
       let b : m ≡ nat_abs z = i ∙ ap nat_abs (to_z-of_z w64 z f) in
       let d : n ≡ length (word_at (words_of v l) (nat_abs z)) = k ∙ ap (λ (r : List ℕ). length (trimmed r)) j ∙ ap length (word_held v l m) ∙ ap (λ (i : ℕ). length (word_at (words_of v l) i)) b in
       rw (a, d) (sym (empty_length (word_at (words_of v l) (nat_abs z))))
@@ -150,32 +152,26 @@ column_cons : (row : List ℤ) (i : ℕ) → i < length row → drop i row ≡ c
 column_cons row i h = rw (add-one, drop-cons row i (pos 0))
 
 module _ (row : List ℤ) (i : ℕ) {g : Bool} (inv : all_zero (drop i row) ≡ g) where
-  pub zero_over : length row ≡ 10 → 10 ≤ i → true ≡ g
+  pub zero_over : length row ≤ i → true ≡ g
   unfolding all_zero
-  zero_over e h = let l : length row ≤ i = omega arith in let z : all_zero (drop i row) ≡ true = rw (drop_of_length-le row l) in sym z ∙ inv
+  zero_over h = let z : all_zero (drop i row) ≡ true = rw (drop_of_length-le row h) in sym z ∙ inv
 
-  module _ (h : i < length row) (f : SFits w64 (column_at row i)) (x : Bool) (e : x ≡ eq_z (back (column_at row i)) (pos 0)) where
-    zero_first : all_zero (drop i row) ≡ (x && all_zero (drop (i + 1) row))
+  module _ (h : i < length row) where
+    zero_first : all_zero (drop i row) ≡ (eq_z (column_at row i) (pos 0) && all_zero (drop (i + 1) row))
     unfolding all_zero
-    zero_first = rw (column_cons row i h, e, to_z-of_z w64 (column_at row i) f)
+    zero_first = rw (column_cons row i h)
 
-    pub zero_not : not x ≡ true → false ≡ g
-    zero_not k = let z : all_zero (drop i row) ≡ false = zero_first ∙ rw (not-true x k) in sym z ∙ inv
+    pub zero_not : (column_at row i ≡ pos 0 → ⊥) → false ≡ g
+    zero_not k = let z : all_zero (drop i row) ≡ false = zero_first ∙ rw (eq_z_differ (column_at row i) (pos 0) k) in sym z ∙ inv
 
-    pub zero_more : not x ≡ false → all_zero (drop (i + 1) row) ≡ g
-    zero_more k = let z : all_zero (drop i row) ≡ all_zero (drop (i + 1) row) = zero_first ∙ rw (not-false x k) in sym z ∙ inv
+    pub zero_more : column_at row i ≡ pos 0 → all_zero (drop (i + 1) row) ≡ g
+    zero_more k = let z : all_zero (drop i row) ≡ all_zero (drop (i + 1) row) = zero_first ∙ rw (eq_z_same (column_at row i) (pos 0) k) in sym z ∙ inv
 
 -- bytes of a text
-module _ (s : List ℕ) (i : ℕ) {g : Bool} (inv : all_of text_byte (drop i s) ≡ g) where
-  pub text_end : length s ≤ i → true ≡ g
-  text_end h = sym (all_over text_byte s i h) ∙ inv
-
-  module _ (h : i < length s) (x : Bool) (e : x ≡ text_byte (get_or s i 0)) where
-    pub text_found : not x ≡ true → false ≡ g
-    text_found k = sym (all_stop text_byte s i h (sym e ∙ not-true x k)) ∙ inv
-
-    pub text_more : not x ≡ false → all_of text_byte (drop (i + 1) s) ≡ g
-    text_more k = sym (all_more text_byte s i h (sym e ∙ not-false x k)) ∙ inv
+pub all_texts : (s : List ℕ) → list_all text_byte s ≡ all_of text_byte s
+unfolding all_of
+all_texts [] = refl
+all_texts (b ∷ s) = ap (λ (t : Bool). text_byte b && t) (all_texts s)
 
 -- a field by its type
 module _ (c : Context) (bytes : List ℕ) (a b : ℤ) (fa : SFits w64 a) (fb : SFits w64 b) where

@@ -8,7 +8,9 @@ use mir.Syntax.{w64}
 use mir.Val.{Fits, SFits}
 use mir.ValLaws.{to_z-of_z}
 use borrow.Author.Tests.{not-true, not-false}
-use lib.IntN.{ℤ, nat_abs}
+use lib.IntN.{ℤ, pos, nat_abs}
+use lib.Signed.{lt_z}
+use Rattle.number_print.proofs.PrintLaws.{below_zero}
 use lib.ListN.{length, drop, drop_of_length-le}
 use Rattle.rows.specs.Columns.{kind_column}
 use Rattle.basics.proofs.Integers.{back}
@@ -67,15 +69,15 @@ module _ (c : Context) (kind : ℕ) (bytes : List ℕ) (row : List ℤ) (n i k :
       fit_fits w g = let a : w ≡ width_of (type_at (types_of c.rules kind) i) = g ∙ ap width_of e in omega (arith, r.columns, widths_here (types_of c.rules kind) i fit_type, a)
 
 -- a row, by its kind
-module _ (c : Context) (bytes : List ℕ) (row : List ℤ) (x : Bool) (fz : SFits w64 (kind_column row)) (e : x ≡ below (back (kind_column row))) where
-  sign : x ≡ below (kind_column row)
-  sign = e ∙ rw (to_z-of_z w64 (kind_column row) fz)
+module _ (c : Context) (bytes : List ℕ) (row : List ℤ) (fz : SFits w64 (kind_column row)) where
+  sign : lt_z (back (kind_column row)) (pos 0) ≡ below (kind_column row)
+  sign = below_zero (kind_column row) fz
 
-  pub row_below : x ≡ true → false ≡ row_fits c bytes row
+  pub row_below : lt_z (back (kind_column row)) (pos 0) ≡ true → false ≡ row_fits c bytes row
   unfolding row_fits
   row_below h = rw (sym sign ∙ h)
 
-  module _ (h : x ≡ false) (k : ℕ) (f : k ≡ nat_abs (back (kind_column row))) (y : Bool) (g : y ≡ is_kind c.rules k) where
+  module _ (h : lt_z (back (kind_column row)) (pos 0) ≡ false) (k : ℕ) (f : k ≡ nat_abs (back (kind_column row))) (y : Bool) (g : y ≡ is_kind c.rules k) where
     kind_is : k ≡ nat_abs (kind_column row)
     kind_is = f ∙ rw (to_z-of_z w64 (kind_column row) fz)
 

@@ -9,28 +9,21 @@ ghost use Rattle.law.specs.Fits.{text_byte, meaning, fits};
 ghost use Rattle.write_columns.specs.Columns.{lies_in, word_fits, integer_fits, range_fits, field_fits, column_fits, all_zero, fields_fit, row_fits};
 
 use law::{Context, FieldType, Rules, Words};
-use number::{Integer, IntegerAnswer};
+use number::Integer;
 use rows::WIDTH;
 
 // Whether a byte may stand in a text: it is permitted, and no quote.
 fn in_text(b: u8) -> bool
     ensures { result ≡ text_byte b }
 {
-    text::permits(b) & (b != 34)
+    text::permits(b) & (b != b'"')
 }
 
 // Whether bytes are those of a text.
 fn is_text(s: &[u8]) -> bool
     ensures { result ≡ all_of text_byte s.now }
 {
-    let mut i = 0;
-    while i < s.len() {
-        if !in_text(s[i]) {
-            return false;
-        }
-        i += 1;
-    }
-    true
+    s.iter().all(|b| in_text(*b))
 }
 
 // Whether what bytes mean may be held at a field of a type; none but texts and dates are held as bytes.
@@ -50,7 +43,7 @@ fn holds_bytes(c: Context, t: FieldType, s: &[u8]) -> bool
 fn lies_in(n: usize, start: i64, len: i64) -> bool
     ensures { result ≡ lies_in n start len }
 {
-    if number::is_below(start) | number::is_below(len) {
+    if (start < 0) | (len < 0) {
         return false;
     }
     let l = number::magnitude(len);
@@ -73,20 +66,18 @@ fn range_fits(c: Context, t: FieldType, bytes: &[u8], start: i64, len: i64) -> b
 }
 
 // Whether a number is an integer that may be held.
+#[tactic(auto, unfolding(crate::specs::Columns::integer_fits))]
 fn integer_fits(z: i64) -> bool
     ensures { result ≡ integer_fits z }
 {
-    match Integer::new(z) {
-        IntegerAnswer::Made(_) => true,
-        IntegerAnswer::Beyond => false,
-    }
+    Integer::new(z).is_some()
 }
 
 // Whether a number is the place of a word.
 fn word_fits(v: Rules, l: Words, z: i64) -> bool
     ensures { result ≡ word_fits v l z }
 {
-    if number::is_below(z) {
+    if z < 0 {
         return false;
     }
     let row = form_words::word_row(v, l, number::magnitude(z));
@@ -127,33 +118,29 @@ fn column_fits(c: Context, t: FieldType, bytes: &[u8], row: &[i64], i: usize) ->
 fn is_zero_from(row: [i64; WIDTH], from: usize) -> bool
     ensures { result ≡ all_zero (drop from row) }
 {
-    let mut i = from;
-    while i < WIDTH {
-        let z = row[i];
-        if !basics::same_integers(z, 0) {
+    for i in from..WIDTH {
+        if row[i] != 0 {
             return false;
         }
-        i += 1;
     }
     true
 }
 
-// Whether a row of a kind holds the values of a record of it, and 0 in the columns behind them.
+// Whether a row of a kind holds the values of a record of it, and 0 in the columns behind them. Fields are counted: an iterator over
+// types and columns would be a type with laws of its own, for a loop of five lines.
 fn fields_fit(c: Context, kind: u64, bytes: &[u8], row: [i64; WIDTH]) -> bool
     ensures { result ≡ fields_fit c bytes.now row (types_of c.rules kind) 1 }
 {
     let v = c.rules;
     let n = form_layouts::field_count(v, kind);
     let layout = form_layouts::row_of(v, kind);
-    let mut i = 0;
     let mut k = 1;
-    while i < n {
+    for i in 0..n {
         let t = form_layouts::field_type(v, kind, layout, i);
         if !column_fits(c, t, bytes, &row, k) {
             return false;
         }
         k += form_layouts::width_of(t);
-        i += 1;
     }
     is_zero_from(row, k)
 }
@@ -164,7 +151,7 @@ pub fn row_fits(c: Context, bytes: &[u8], row: [i64; WIDTH]) -> bool
 {
     let v = c.rules;
     let z = row[rows::KIND];
-    if number::is_below(z) {
+    if z < 0 {
         return false;
     }
     let kind = number::magnitude(z);

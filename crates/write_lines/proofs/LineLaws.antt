@@ -17,6 +17,7 @@ use Rattle.basics.proofs.Bools.{and_left, and_right, same_flag, flag_eq}
 use Rattle.law.specs.Fields.{Field}
 use Rattle.law.specs.Sections.{section_names, sections}
 use Rattle.law.specs.Words.{prop_word, same_bytes, word_at}
+use Rattle.law.specs.declared.Role.{Role}
 use Rattle.law.specs.Kinds.{section_of, line_of, role_of, last_kind}
 use Rattle.law.specs.Layouts.{Front, keyword, prop, plain, Layout, layout_of, types_by, types_of}
 use Rattle.form_layouts.specs.Letters.{width_of, known_by, is_kind}
@@ -26,7 +27,7 @@ use Rattle.law.specs.declared.Rules.{Rules}
 use Rattle.law.specs.declared.Rules.TheVariants.{Idf3}
 use Rattle.law.specs.declared.FieldType.{FieldType}
 use Rattle.law.specs.Canonical.{canonical_field, canonical_fields, canonical_line, canonical_by, canonical_record, written, joined, with_front}
-use Rattle.order.specs.Automaton.{role_number}
+use Rattle.order.specs.Automaton.{is_role}
 use Rattle.write_columns.specs.Columns.{kind_in}
 use Rattle.write_columns.specs.Records.{value_in, values_in}
 use Rattle.write_lines.specs.LineText.{line_text, mark_of, name_at, behind_of, front_text, value_text, ended_text, fields_text}
@@ -82,14 +83,14 @@ abbrev no_types : List FieldType → Bool
 no_types [] = true
 no_types (t ∷ ts) = false
 
-abbrev right_by : Option Layout → ℕ → ℕ → Bool
+abbrev right_by : Option Layout → Role → ℕ → Bool
 right_by none n s = true
 right_by (some l) n s =
     same_bytes (word_before l.front) (mark_of n ++ trimmed (name_at n s))
     && (same_flag (is_empty (word_before l.front)) (is_empty (mark_of n)) && not (is_empty (word_before l.front) && no_types l.types))
 
 abbrev right : Rules → ℕ → Bool
-right v k = right_by (layout_of v k) (role_number (role_of v k)) (section_of v k)
+right v k = right_by (layout_of v k) (role_of v k) (section_of v k)
 
 table_right : (v : Rules) → all_below (suc last_kind) (right v) ≡ true
 unfolding layout_of role_of section_of line_of sections section_names word_at trimmed keyword_row keyword_table no_keyword same_bytes is_empty
@@ -115,8 +116,8 @@ module _ (v : Rules) (bytes : List ℕ) (row : List ℤ) (known : is_kind v (kin
   abbrev k : ℕ
   k = kind_in row
 
-  abbrev role : ℕ
-  role = role_number (role_of v k)
+  abbrev role : Role
+  role = role_of v k
 
   pub line_pieces : line_text v bytes row ≡ front_text role (section_of v k) (length (types_of v k)) ++ fields_text v bytes row (types_of v k) 1
   unfolding line_text canonical_record canonical_line types_of is_kind front_text

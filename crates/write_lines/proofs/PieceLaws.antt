@@ -20,6 +20,8 @@ use Rattle.law.specs.Limits.{largest_length, largest_integer}
 use Rattle.number_print.specs.Printing.{Wrote}
 use Rattle.law.specs.Printing.{printed_count, printed_integer}
 use Rattle.number_print.proofs.PrintLaws.{wrote_length, wrote_more}
+use Rattle.law.specs.declared.Role.{Role}
+use Rattle.law.specs.declared.Role.TheVariants.{Opening as opening, Closing as closing, Prop as prop}
 use Rattle.law.specs.Kinds.{section_of, role_of}
 use Rattle.form_words.specs.Padded.{trimmed, no_keyword, name_row, closing_row, word_row}
 use Rattle.write_texts.proofs.WordLaws.{some_byte, trimmed_short}
@@ -38,7 +40,7 @@ use Rattle.write_texts.specs.Meant.{meant_text}
 use Rattle.law.specs.declared.FieldType.TheVariants.{Text as T, Date as D, Integer as I, Number as N, Word as W}
 use Rattle.form_words.proofs.RowLaws.{word_held}
 use Rattle.law.specs.Canonical.{needs_quotes, version_text, printed_number, canonical_field, written}
-use Rattle.order.specs.Automaton.{role_number}
+use Rattle.order.specs.Automaton.{is_role}
 use Rattle.rows_texts.specs.Texts.{text_at}
 use Rattle.law.specs.Answers.{limit}
 use Rattle.write_columns.specs.Columns.{lies_in, range_fits, integer_fits, field_fits, column_fits}
@@ -64,53 +66,14 @@ pub behind_more : (n : ℕ) → (n ≡ 0 → ⊥) → 32 ≡ behind_of n
 behind_more n h = rw (ne_eqb n 0 h)
 
 -- marks
-module _ (n : ℕ) where
-  pub mark_open : n ≡ 0 → ascii "." ≡ mark_of n
-  mark_open h = rw h
-
-  pub mark_prop : n ≡ 5 → ascii "PROP" ≡ mark_of n
-  mark_prop h = rw h
-
-  pub mark_close : n ≡ 9 → ascii "." ≡ mark_of n
-  mark_close h = rw h
-
-  pub mark_none : (n ≡ 0 → ⊥) → (n ≡ 5 → ⊥) → (n ≡ 9 → ⊥) → [] ≡ mark_of n
-  mark_none a b c = rw (ne_eqb n 0 a, ne_eqb n 9 c, ne_eqb n 5 b)
-
-  pub mark_len_open : n ≡ 0 → 1 ≡ length (mark_of n)
-  mark_len_open h = rw h
-
-  pub mark_len_prop : n ≡ 5 → 4 ≡ length (mark_of n)
-  mark_len_prop h = rw h
-
-  pub mark_len_close : n ≡ 9 → 1 ≡ length (mark_of n)
-  mark_len_close h = rw h
-
-  pub mark_len_none : (n ≡ 0 → ⊥) → (n ≡ 5 → ⊥) → (n ≡ 9 → ⊥) → 0 ≡ length (mark_of n)
-  mark_len_none a b c = rw (ne_eqb n 0 a, ne_eqb n 9 c, ne_eqb n 5 b)
-
-  pub mark_put_none : (o : List ℕ) (at : ℕ) → (n ≡ 0 → ⊥) → (n ≡ 5 → ⊥) → (n ≡ 9 → ⊥) → Wrote o o at at (mark_of n)
-  mark_put_none o at a b c = rw (sym (mark_none a b c)) (record { is = refl; next = omega arith })
-
-  mark_short : length (mark_of n) ≤ 4
-  mark_short = go (eqb n 0) (eqb n 9) (eqb n 5)
-    where
-      go : (a b c : Bool) → length (cond a (ascii ".") (cond b (ascii ".") (cond c (ascii "PROP") []))) ≤ 4
-      go true b c = omega arith
-      go false true c = omega arith
-      go false false true = omega arith
-      go false false false = omega arith
-
-  -- names and closing forms
-  pub name_open : (s : ℕ) (r : List ℕ) → n ≡ 0 → r ≡ name_row s → r ≡ name_at n s
-  name_open s r h e = rw h e
-
-  pub name_close : (s : ℕ) (r : List ℕ) → n ≡ 9 → r ≡ closing_row s → r ≡ name_at n s
-  name_close s r h e = rw h e
-
-  pub name_none : (s : ℕ) → (n ≡ 0 → ⊥) → (n ≡ 9 → ⊥) → ascii "                    " ≡ name_at n s
-  unfolding no_keyword
-  name_none s a b = rw (ne_eqb n 0 a, ne_eqb n 9 b)
+mark_short : (role : Role) → length (mark_of role) ≤ 4
+mark_short role = go (is_role role opening) (is_role role closing) (is_role role prop)
+  where
+    go : (a b c : Bool) → length (cond a (ascii ".") (cond b (ascii ".") (cond c (ascii "PROP") []))) ≤ 4
+    go true b c = omega arith
+    go false true c = omega arith
+    go false false true = omega arith
+    go false false false = omega arith
 
 -- what stands before fields
 empty_none : (s : List ℕ) → length s ≡ 0 → is_empty s ≡ true
@@ -118,7 +81,7 @@ unfolding is_empty
 empty_none [] h = refl
 empty_none (b ∷ s) h = absurd (omega arith)
 
-module _ (role s n m : ℕ) (e : m ≡ length (mark_of role)) where
+module _ (role : Role) (s n m : ℕ) (e : m ≡ length (mark_of role)) where
   front_none : m ≡ 0 → front_text role s n ≡ []
   unfolding front_text
   front_none h = rw (empty_none (mark_of role) (sym e ∙ h))
@@ -130,20 +93,20 @@ module _ (role s n m : ℕ) (e : m ≡ length (mark_of role)) where
   front_length : (m ≡ 0 → ⊥) → length (front_text role s n) ≡ length (mark_of role) + length (trimmed (name_at role s)) + 1
   front_length h = omega (arith, ap length (front_some h), length-append (mark_of role) (trimmed (name_at role s) ++ behind_of n ∷ []), length-append (trimmed (name_at role s)) (behind_of n ∷ []))
 
-module _ (v : Rules) (k n m role : ℕ) (i : role ≡ role_number (role_of v k)) (e : m ≡ length (mark_of role)) where
+module _ (v : Rules) (k n m : ℕ) (role : Role) (i : role ≡ role_of v k) (e : m ≡ length (mark_of role)) where
   abbrev s : ℕ
   s = section_of v k
 
-  moved : front_text role s n ≡ front_text (role_number (role_of v k)) s n
+  moved : front_text role s n ≡ front_text (role_of v k) s n
   moved = rw i
 
-  pub front_len_none : m ≡ 0 → 0 ≡ length (front_text (role_number (role_of v k)) s n)
+  pub front_len_none : m ≡ 0 → 0 ≡ length (front_text (role_of v k) s n)
   front_len_none h = sym (ap length (front_none role s n m e h)) ∙ ap length moved
 
-  pub front_put_none : (o : List ℕ) (at : ℕ) → m ≡ 0 → Wrote o o at at (front_text (role_number (role_of v k)) s n)
+  pub front_put_none : (o : List ℕ) (at : ℕ) → m ≡ 0 → Wrote o o at at (front_text (role_of v k) s n)
   front_put_none o at h = rw (sym moved ∙ front_none role s n m e h) (record { is = refl; next = omega arith })
 
-  pub mark_room : (o : List ℕ) (at : ℕ) → (m ≡ 0 → ⊥) → at + length (front_text (role_number (role_of v k)) s n) ≤ length o → at + length (mark_of role) ≤ length o
+  pub mark_room : (o : List ℕ) (at : ℕ) → (m ≡ 0 → ⊥) → at + length (front_text (role_of v k) s n) ≤ length o → at + length (mark_of role) ≤ length o
   mark_room o at h l = omega (arith, ap length moved, front_length role s n m e h)
 
   module _ (t : ℕ) (j : t ≡ s) (row : List ℕ) (f : row ≡ name_at role t) where
@@ -156,10 +119,10 @@ module _ (v : Rules) (k n m role : ℕ) (i : role ≡ role_number (role_of v k))
     pub front_len_fits : length row ≡ 20 → (x : ℕ) → x ≡ length (trimmed row) → Fits w64 (m + x + 1)
     front_len_fits w x g = omega (arith, e, mark_short role, trimmed_short row)
 
-    pub front_len_some : (x : ℕ) → (m ≡ 0 → ⊥) → x ≡ length (trimmed row) → m + x + 1 ≡ length (front_text (role_number (role_of v k)) s n)
+    pub front_len_some : (x : ℕ) → (m ≡ 0 → ⊥) → x ≡ length (trimmed row) → m + x + 1 ≡ length (front_text (role_of v k) s n)
     front_len_some x h g = omega (arith, ap length moved, front_length role s n m e h, e, g, ap (λ (l : List ℕ). length (trimmed l)) named)
 
-    module _ (o p : List ℕ) (at a : ℕ) (h : m ≡ 0 → ⊥) (l : at + length (front_text (role_number (role_of v k)) s n) ≤ length o) (w : Wrote o p at a (mark_of role)) where
+    module _ (o p : List ℕ) (at a : ℕ) (h : m ≡ 0 → ⊥) (l : at + length (front_text (role_of v k) s n) ≤ length o) (w : Wrote o p at a (mark_of role)) where
       pub name_room : a + length (trimmed row) ≤ length p
       name_room = omega (arith, ap length moved, front_length role s n m e h, w.next, wrote_length w, ap (λ (l : List ℕ). length (trimmed l)) named)
 
@@ -167,7 +130,7 @@ module _ (v : Rules) (k n m role : ℕ) (i : role ≡ role_number (role_of v k))
         pub behind_room : b < length q
         behind_room = omega (arith, ap length moved, front_length role s n m e h, w.next, x.next, wrote_length w, wrote_length x, ap (λ (l : List ℕ). length (trimmed l)) named)
 
-        pub front_put : (z : List ℕ) (c d : ℕ) → d ≡ behind_of n → Wrote q z b c (d ∷ []) → Wrote o z at c (front_text (role_number (role_of v k)) s n)
+        pub front_put : (z : List ℕ) (c d : ℕ) → d ≡ behind_of n → Wrote q z b c (d ∷ []) → Wrote o z at c (front_text (role_of v k) s n)
         front_put z c d g y =
             let u : Wrote p z a c (trimmed (name_at role s) ++ behind_of n ∷ []) = rw (sym named, sym g) (wrote_more x y) in
             rw (sym moved ∙ front_some role s n m e h) (wrote_more w u)
@@ -189,17 +152,22 @@ module _ (bytes : List ℕ) (a l : ℤ) (h : lies_in (length bytes) a l ≡ true
   pub part_fits : length bytes < 2 ^ 64 → Fits w64 (p + n)
   part_fits k = omega (arith, part_end)
 
-  part_is : take (p + n - p) (drop p bytes) ≡ text_at bytes a l
+  pub part_is : take (p + n - p) (drop p bytes) ≡ text_at bytes a l
   part_is = let z : p + n - p ≡ nat_abs l = omega (arith, long_is) in rw (z, first_is)
 
-  pub date_is : take (p + n - p) (drop p bytes) ≡ text_at bytes a l
-  date_is = part_is
+-- the bytes of it, as they were asked for
+pub lies_back : (n : ℕ) (a l : ℤ) → SFits w64 a → SFits w64 l → lies_in n a l ≡ true → lies_in n (back a) (back l) ≡ true
+lies_back n a l fa fl h = rw (to_z-of_z w64 a fa, to_z-of_z w64 l fl) h
 
-  pub text_long : (k : Texts) (x : ℕ) → x ≡ length (written (field (needs_quotes (take (p + n - p) (drop p bytes))) (take (p + n - p) (drop p bytes)))) → x ≡ length (part_text k bytes a l)
-  text_long k x e = e ∙ rw part_is (meaning_written (T k) (text_at bytes a l))
+module _ (bytes : List ℕ) (a l : ℤ) (fa : SFits w64 a) (fl : SFits w64 l) (s : List ℕ) (e : s ≡ text_at bytes (back a) (back l)) where
+  pub date_is : s ≡ text_at bytes a l
+  date_is = e ∙ rw (to_z-of_z w64 a fa, to_z-of_z w64 l fl)
 
-  pub text_is_lem : (k : Texts) → meant_text k (take (p + n - p) (drop p bytes)) ≡ part_text k bytes a l
-  text_is_lem k = ap (λ (s : List ℕ). meant_text k s) part_is
+  pub text_long : (k : Texts) (x : ℕ) → x ≡ length (written (field (needs_quotes s) s)) → x ≡ length (part_text k bytes a l)
+  text_long k x i = i ∙ rw date_is (meaning_written (T k) (text_at bytes a l))
+
+  pub text_is_lem : (k : Texts) → meant_text k s ≡ part_text k bytes a l
+  text_is_lem k = ap (λ (u : List ℕ). meant_text k u) date_is
 
 text_length_lem : (bytes : List ℕ) (a l : ℤ) → lies_in (length bytes) a l ≡ true → length (text_at bytes a l) ≡ nat_abs l
 text_length_lem bytes a l h = omega (arith, length-take (nat_abs l) (drop (nat_abs a) bytes), length-drop (nat_abs a) bytes, lies_ends (length bytes) a l h)
@@ -376,3 +344,6 @@ module _ (v : Rules) (t : FieldType) (bytes : List ℕ) (a b : ℤ) (n : ℕ) (f
 
 pub sum_capped : (sum n r : ℕ) → r ≡ up_to (sum + n) → r ≤ limit + 1
 sum_capped sum n r e = rw e (up_small (sum + n))
+
+-- the length of what stands before fields is proved by
+pub ruleset front_len_laws = (front_len_none, front_len_mark, front_len_fits, front_len_some)

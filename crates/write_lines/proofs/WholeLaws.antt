@@ -22,7 +22,6 @@ use Rattle.law.specs.declared.Rules.{Rules}
 use Rattle.law.specs.declared.FieldType.{FieldType}
 use Rattle.form_layouts.proofs.KindLaws.{nine, type_here, widths_here}
 use Rattle.law.specs.Rows.{width}
-use Rattle.order.specs.Automaton.{role_number}
 use Rattle.law.specs.Answers.{limit}
 use Rattle.write_columns.specs.Columns.{column_fits, fields_fit, kind_in, row_fits}
 use Rattle.write_lines.specs.LineText.{line_text, anywhere, up_to, behind_of, front_text, value_text, ended_text, column_text, fields_text}
@@ -58,26 +57,26 @@ module _ (v : Rules) (bytes : List ℕ) (row : List ℤ) (f : row_fits (anywhere
   unfolding row_fits
   known = and_right (not (below (kind_column row))) _ f
 
-  pieces : (n : ℕ) → n ≡ length (types_of v kind) → line_text v bytes row ≡ front_text (role_number (role_of v kind)) (section_of v kind) n ++ fields_text v bytes row (types_of v kind) 1
+  pieces : (n : ℕ) → n ≡ length (types_of v kind) → line_text v bytes row ≡ front_text (role_of v kind) (section_of v kind) n ++ fields_text v bytes row (types_of v kind) 1
   pieces n g = rw (g, kind_is) (line_pieces v bytes row (and_left (is_kind v (kind_in row)) _ known))
 
   pub fields_fit_lem : fields_fit (anywhere v) bytes row (types_of v kind) 1 ≡ true
   fields_fit_lem = rw kind_is (and_right (is_kind v (kind_in row)) _ known)
 
   module _ (n : ℕ) (g : n ≡ length (types_of v kind)) where
-    pub line_sum : (sum x len r : ℕ) → x ≡ length (front_text (role_number (role_of v kind)) (section_of v kind) n) → len ≡ up_to (sum + x)
+    pub line_sum : (sum x len r : ℕ) → x ≡ length (front_text (role_of v kind) (section_of v kind) n) → len ≡ up_to (sum + x)
         → r ≡ up_to (len + length (fields_text v bytes row (types_of v kind) 1)) → r ≡ up_to (sum + length (line_text v bytes row))
     line_sum sum x len r h i j =
         let fs = fields_text v bytes row (types_of v kind) 1 in
-        let z : sum + x + length fs ≡ sum + length (line_text v bytes row) = omega (arith, h, ap length (pieces n g), length-append (front_text (role_number (role_of v kind)) (section_of v kind) n) fs) in
+        let z : sum + x + length fs ≡ sum + length (line_text v bytes row) = omega (arith, h, ap length (pieces n g), length-append (front_text (role_of v kind) (section_of v kind) n) fs) in
         j ∙ rw i (up_again (sum + x) (length fs)) ∙ ap up_to z
 
-    pub front_room : (o : List ℕ) (at : ℕ) → at + length (line_text v bytes row) ≤ length o → at + length (front_text (role_number (role_of v kind)) (section_of v kind) n) ≤ length o
-    front_room o at h = omega (arith, ap length (pieces n g), length-append (front_text (role_number (role_of v kind)) (section_of v kind) n) (fields_text v bytes row (types_of v kind) 1))
+    pub front_room : (o : List ℕ) (at : ℕ) → at + length (line_text v bytes row) ≤ length o → at + length (front_text (role_of v kind) (section_of v kind) n) ≤ length o
+    front_room o at h = omega (arith, ap length (pieces n g), length-append (front_text (role_of v kind) (section_of v kind) n) (fields_text v bytes row (types_of v kind) 1))
 
-    module _ (o p : List ℕ) (at a : ℕ) (w : Wrote o p at a (front_text (role_number (role_of v kind)) (section_of v kind) n)) where
+    module _ (o p : List ℕ) (at a : ℕ) (w : Wrote o p at a (front_text (role_of v kind) (section_of v kind) n)) where
       pub fields_room : at + length (line_text v bytes row) ≤ length o → a + length (fields_text v bytes row (types_of v kind) 1) ≤ length p
-      fields_room h = omega (arith, w.next, wrote_length w, ap length (pieces n g), length-append (front_text (role_number (role_of v kind)) (section_of v kind) n) (fields_text v bytes row (types_of v kind) 1))
+      fields_room h = omega (arith, w.next, wrote_length w, ap length (pieces n g), length-append (front_text (role_of v kind) (section_of v kind) n) (fields_text v bytes row (types_of v kind) 1))
 
       pub line_put : (q : List ℕ) (b : ℕ) → Wrote p q a b (fields_text v bytes row (types_of v kind) 1) → Wrote o q at b (line_text v bytes row)
       line_put q b x = rw (pieces n g) (wrote_more w x)

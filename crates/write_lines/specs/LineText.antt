@@ -6,6 +6,9 @@ use Rattle.law.specs.Words.{prop_word}
 use Rattle.form_layouts.specs.Letters.{width_of}
 use Rattle.form_words.specs.Padded.{trimmed, no_keyword, name_row, closing_row}
 use Rattle.law.specs.Fits.{under, is_empty}
+use Rattle.law.specs.declared.Role.{Role}
+use Rattle.law.specs.declared.Role.TheVariants.{Opening as opening, Closing as closing, Prop as prop}
+use Rattle.order.specs.Automaton.{is_role}
 use Rattle.law.specs.declared.Rules.{Rules}
 use Rattle.law.specs.declared.Context.{Context}
 use Rattle.law.specs.declared.FileType.TheVariants.{Library}
@@ -31,20 +34,20 @@ up_to n = cond (ltb limit n) (limit + 1) n
 
 -- piece by piece
 
--- by the number of a line's role: the period of a keyword, or PROP
-abbrev pub mark_of : ℕ → List ℕ
-mark_of n = cond (eqb n 0) (ascii ".") (cond (eqb n 9) (ascii ".") (cond (eqb n 5) prop_word []))
+-- by a line's role: the period of a keyword, or PROP
+abbrev pub mark_of : Role → List ℕ
+mark_of role = cond (is_role role opening) (ascii ".") (cond (is_role role closing) (ascii ".") (cond (is_role role prop) prop_word []))
 
 -- behind the period: the name of section s in its opening line, its closing form in its closing line, as padded rows
-abbrev pub name_at : ℕ → ℕ → List ℕ
-name_at n s = cond (eqb n 0) (name_row s) (cond (eqb n 9) (closing_row s) no_keyword)
+abbrev pub name_at : Role → ℕ → List ℕ
+name_at role s = cond (is_role role opening) (name_row s) (cond (is_role role closing) (closing_row s) no_keyword)
 
 -- the byte behind a field, by the number of those that follow it
 abbrev pub behind_of : ℕ → ℕ
 behind_of n = cond (eqb n 0) 10 32
 
 -- what stands before n fields
-unfoldable pub front_text : ℕ → ℕ → ℕ → List ℕ
+unfoldable pub front_text : Role → ℕ → ℕ → List ℕ
 front_text role s n = cond (is_empty (mark_of role)) [] (mark_of role ++ (trimmed (name_at role s) ++ behind_of n ∷ []))
 
 -- what a text means at its field, with the quotes that it needs

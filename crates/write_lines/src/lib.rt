@@ -33,7 +33,9 @@ fn longer(sum: usize, n: usize) -> usize
 
 // A sum with the field from column i on and the byte behind it.
 fn with_column(sum: usize, v: Rules, t: FieldType, bytes: &[u8], row: &[i64], i: usize) -> usize
-    requires { (sum ≤ limit + 1) × (i < 100) × (column_fits (anywhere v) t bytes.now row.now i ≡ true) }
+    requires sum { sum ≤ limit + 1 }
+    requires column { i < 100 }
+    requires fits { column_fits (anywhere v) t bytes.now row.now i ≡ true }
     ensures { result ≡ up_to (sum + (length (value_text v t bytes.now (column_at row.now i) (column_at row.now (i + 1))) + 1)) }
 {
     let a = rows::column_at(row, i);
@@ -53,7 +55,9 @@ fn put_column(
     i: usize,
     n: usize,
 ) -> usize
-    requires { (i < 100) × (column_fits (anywhere v) t bytes.now row.now i ≡ true) × (at + length (column_text v t bytes.now row.now i n) ≤ length out.old) }
+    requires column { i < 100 }
+    requires fits { column_fits (anywhere v) t bytes.now row.now i ≡ true }
+    requires room { at + length (column_text v t bytes.now row.now i n) ≤ length out.old }
     ensures { Wrote out.old out.new at result (column_text v t bytes.now row.now i n) }
 {
     let a = rows::column_at(row, i);
@@ -61,28 +65,29 @@ fn put_column(
     values::put_ended(out, at, v, t, bytes, a, b, n)
 }
 
-// A sum with the fields of a row of a kind.
+// A sum with the fields of a row of a kind, which are counted as in `write_columns::fields_fit`. Lengths are found without the bytes,
+// since a slice that is too short stays as it is.
 fn with_fields(sum: usize, v: Rules, kind: u64, bytes: &[u8], row: [i64; WIDTH]) -> usize
-    requires { (sum ≤ limit + 1) × (fields_fit (anywhere v) bytes.now row (types_of v kind) 1 ≡ true) }
+    requires sum { sum ≤ limit + 1 }
+    requires fits { fields_fit (anywhere v) bytes.now row (types_of v kind) 1 ≡ true }
     ensures { result ≡ up_to (sum + length (fields_text v bytes.now row (types_of v kind) 1)) }
 {
     let n = form_layouts::field_count(v, kind);
     let layout = form_layouts::row_of(v, kind);
     let mut len = sum;
-    let mut i = 0;
     let mut k = 1;
-    while i < n {
+    for i in 0..n {
         let t = form_layouts::field_type(v, kind, layout, i);
         len = with_column(len, v, t, bytes, &row, k);
         k += form_layouts::width_of(t);
-        i += 1;
     }
     len
 }
 
 // A sum with the length of a row's line, up to one more than the limit.
 pub fn line_len(v: Rules, bytes: &[u8], row: [i64; WIDTH], sum: usize) -> usize
-    requires { (sum ≤ limit + 1) × (row_fits (anywhere v) bytes.now row ≡ true) }
+    requires sum { sum ≤ limit + 1 }
+    requires fits { row_fits (anywhere v) bytes.now row ≡ true }
     ensures { result ≡ up_to (sum + length (line_text v bytes.now row)) }
 {
     let kind = number::magnitude(row[rows::KIND]);
@@ -91,7 +96,7 @@ pub fn line_len(v: Rules, bytes: &[u8], row: [i64; WIDTH], sum: usize) -> usize
     with_fields(len, v, kind, bytes, row)
 }
 
-// The fields of a row of a kind.
+// The fields of a row of a kind, counted as in `write_columns::fields_fit`.
 fn put_fields(
     out: &mut [u8],
     at: usize,
@@ -100,26 +105,26 @@ fn put_fields(
     bytes: &[u8],
     row: [i64; WIDTH],
 ) -> usize
-    requires { (fields_fit (anywhere v) bytes.now row (types_of v kind) 1 ≡ true) × (at + length (fields_text v bytes.now row (types_of v kind) 1) ≤ length out.old) }
+    requires fits { fields_fit (anywhere v) bytes.now row (types_of v kind) 1 ≡ true }
+    requires room { at + length (fields_text v bytes.now row (types_of v kind) 1) ≤ length out.old }
     ensures { Wrote out.old out.new at result (fields_text v bytes.now row (types_of v kind) 1) }
 {
     let n = form_layouts::field_count(v, kind);
     let layout = form_layouts::row_of(v, kind);
     let mut e = at;
-    let mut i = 0;
     let mut k = 1;
-    while i < n {
+    for i in 0..n {
         let t = form_layouts::field_type(v, kind, layout, i);
         e = put_column(out, e, v, t, bytes, &row, k, n - i - 1);
         k += form_layouts::width_of(t);
-        i += 1;
     }
     e
 }
 
 // A row's line.
 pub fn put_line(out: &mut [u8], at: usize, v: Rules, bytes: &[u8], row: [i64; WIDTH]) -> usize
-    requires { (row_fits (anywhere v) bytes.now row ≡ true) × (at + length (line_text v bytes.now row) ≤ length out.old) }
+    requires fits { row_fits (anywhere v) bytes.now row ≡ true }
+    requires room { at + length (line_text v bytes.now row) ≤ length out.old }
     ensures { Wrote out.old out.new at result (line_text v bytes.now row) }
 {
     let kind = number::magnitude(row[rows::KIND]);

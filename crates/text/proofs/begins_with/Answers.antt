@@ -1,32 +1,22 @@
 -- `text::begins_with` meets its contract. Assumes nothing.
 use Prim.Native.Nat.{ℕ}
-use mathlib.Core.Path.{◌≡◌, refl}
-use mathlib.Core.Bool.{false}
+use mathlib.Core.Path.{◌≡◌, refl, ◌∙◌}
 use mathlib.Core.List.{List, [], ◌∷◌}
-use native.Mathlib.Omega.{arith}
-use borrow.Author.Rules.{rules}
+use denote.Bor.{Bor}
 use lib.Dec.{eqb}
-use lib.ListN.{length, get_or}
+use Rattle.std.specs.Prelude.{Option, Some, None}
+use Rattle.std.specs.List.{slice_get}
+use Rattle.std.specs.Option.{option_eq, option_copied}
 use Rattle.law.specs.Bytes.{begins}
 use Rattle.text.proofs.begins_with.Goals as goal
 
-none : (s : List ℕ) (b : ℕ) → length s ≡ 0 → false ≡ begins b s
+-- a first byte compared
+first_is : (s : List ℕ) (o : Option (Bor ℕ)) (r : Bor ℕ) → option_copied o ≡ slice_get s 0 → option_eq (λ x y. eqb x.now y.now) o (Some r) ≡ begins r.now s
 unfolding begins
-none [] b h = refl
-none (a ∷ s) b h = absurd (omega arith)
-
-some : (s : List ℕ) (b : ℕ) → (length s ≡ 0 → ⊥) → eqb (get_or s 0 0) b ≡ begins b s
-unfolding begins
-some [] b h = absurd (h refl)
-some (a ∷ s) b h = refl
-
-ruleset laws = (none, some, rules)
-
-pub returns-then-s-eq0 : goal.returns-then-s-eq0
-returns-then-s-eq0 c = search laws
-
-pub bounds-s-0 : goal.bounds-s-0
-bounds-s-0 c = search laws
+first_is [] None r e = refl
+first_is [] (Some x) r e = cc
+first_is (a ∷ s) None r e = cc
+first_is (a ∷ s) (Some x) r e = let z : x.now ≡ a = cc in rw z
 
 pub returns : goal.returns
-returns c = search laws
+returns c = c.eq.ensures ∙ first_is c.args.s.now c.first.result _ c.first.ensures.value

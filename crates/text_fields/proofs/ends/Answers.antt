@@ -1,14 +1,12 @@
 -- `text_fields::ends` meets its contract. Assumes nothing.
 use borrow.Author.Rules.{rules}
-use native.Mathlib.Omega.{arith}
 use Rattle.text_fields.proofs.FieldLaws.{ends_end, ends_byte}
 use Rattle.text_fields.proofs.ends.Goals as goal
 
+ruleset laws = (ends_end, ends_byte, rules)
+
 pub returns-then-at-s : goal.returns-then-at-s
-returns-then-at-s c = ends_end c.args.s.now c.args.at (omega arith)
+returns-then-at-s c = search laws
 
-pub bounds-s-at : goal.bounds-s-at
-bounds-s-at c = search rules
-
-pub returns : goal.returns
-returns c = ends_byte c.args.s.now c.args.at (omega arith)
+pub returns-else-at-s : goal.returns-else-at-s
+returns-else-at-s c = search laws

@@ -32,12 +32,6 @@ width_of-k-requires c = search laws
 pub overflow_add-k : goal.overflow_add-k
 overflow_add-k c = search laws
 
-pub overflow_add-i : goal.overflow_add-i
-overflow_add-i c = search laws
-
-pub loop-i-smaller : goal.loop-i-smaller
-loop-i-smaller c = search laws
-
 pub loop-i-preserved : goal.loop-i-preserved
 loop-i-preserved c = (search (fit_more, c.loop-i.invariant.0, c.loop-i-test.true, c.field_type-t.ensures, c.column_fits.ensures, c.if-not-column_fits.false-raw, c.width_of-k.ensures), search laws)
 

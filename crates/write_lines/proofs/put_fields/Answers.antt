@@ -5,12 +5,6 @@ use Rattle.write_lines.proofs.put_fields.Goals as goal
 
 ruleset laws = (put_start, put_over, put_same, put_few, put_type, put_fits, put_add, put_room, put_more, rules)
 
-pub field_count-n-requires : goal.field_count-n-requires
-field_count-n-requires c = search laws
-
-pub row_of-layout-requires : goal.row_of-layout-requires
-row_of-layout-requires c = search laws
-
 pub loop-i-init : goal.loop-i-init
 loop-i-init c = search laws
 
@@ -23,23 +17,11 @@ slice_bounds-put_column-end c = search laws
 pub put_column-e-requires : goal.put_column-e-requires
 put_column-e-requires c = search laws
 
-pub width_of-k-requires : goal.width_of-k-requires
-width_of-k-requires c = search laws
-
 pub overflow_add-k : goal.overflow_add-k
 overflow_add-k c = search laws
 
-pub overflow_add-i : goal.overflow_add-i
-overflow_add-i c = search laws
-
-pub loop-i-smaller : goal.loop-i-smaller
-loop-i-smaller c = search laws
-
 pub loop-i-preserved : goal.loop-i-preserved
 loop-i-preserved c = (search (put_more, c.loop-i.invariant.0, c.loop-i-test.true, c.field_type-t.ensures, c.put_column-e.ensures, c.width_of-k.ensures), search laws)
-
-pub shape_of-out : goal.shape_of-out
-shape_of-out c = search laws
 
 pub returns : goal.returns
 returns c = search laws

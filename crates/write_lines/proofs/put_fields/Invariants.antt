@@ -1,5 +1,4 @@
 -- What the loops of `put_fields` keep.
-use Prim.Native.Nat.{◌-◌}
 use mathlib.Core.Path.{◌≡◌}
 use Rattle.form_layouts.specs.Letters.{row_of}
 use Rattle.write_lines.proofs.WholeLaws.{Putting}
@@ -7,6 +6,3 @@ use Rattle.write_lines.proofs.put_fields.Given as goal
 
 abbrev pub invariant-loop-i : goal.invariant-loop-i
 invariant-loop-i l = Putting l.v l.bytes l.row l.initial.out l.out l.at l.kind l.n l.e l.i l.k × (l.layout ≡ row_of l.v l.kind)
-
-abbrev pub decreases-loop-i : goal.decreases-loop-i
-decreases-loop-i l = l.n - l.i

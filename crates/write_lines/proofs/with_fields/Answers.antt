@@ -5,12 +5,6 @@ use Rattle.write_lines.proofs.with_fields.Goals as goal
 
 ruleset laws = (sum_start, sum_over, sum_few, sum_small, sum_type, sum_fits, sum_add, sum_more, rules)
 
-pub field_count-n-requires : goal.field_count-n-requires
-field_count-n-requires c = search laws
-
-pub row_of-layout-requires : goal.row_of-layout-requires
-row_of-layout-requires c = search laws
-
 pub loop-i-init : goal.loop-i-init
 loop-i-init c = search laws
 
@@ -23,17 +17,8 @@ slice_bounds-with_column-end c = search laws
 pub with_column-len-requires : goal.with_column-len-requires
 with_column-len-requires c = search laws
 
-pub width_of-k-requires : goal.width_of-k-requires
-width_of-k-requires c = search laws
-
 pub overflow_add-k : goal.overflow_add-k
 overflow_add-k c = search laws
-
-pub overflow_add-i : goal.overflow_add-i
-overflow_add-i c = search laws
-
-pub loop-i-smaller : goal.loop-i-smaller
-loop-i-smaller c = search laws
 
 pub loop-i-preserved : goal.loop-i-preserved
 loop-i-preserved c = (search (sum_more, c.loop-i.invariant.0, c.loop-i-test.true, c.field_type-t.ensures, c.with_column-len.ensures, c.width_of-k.ensures), search laws)

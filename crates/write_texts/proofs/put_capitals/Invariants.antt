@@ -1,5 +1,5 @@
--- What the loops of `put_capitals` keep.
-use Prim.Native.Nat.{◌+◌, ◌-◌, ◌≤◌}
+-- What the loop of `put_capitals` keeps.
+use Prim.Native.Nat.{◌+◌, ◌≤◌}
 use lib.ListN.{length, take}
 use Rattle.law.specs.Words.{folded}
 use Rattle.number_print.specs.Printing.{Wrote}
@@ -7,6 +7,3 @@ use Rattle.write_texts.proofs.put_capitals.Given as goal
 
 abbrev pub invariant-loop-i : goal.invariant-loop-i
 invariant-loop-i l = (l.i ≤ length l.s) × (Wrote l.initial.out l.out l.at (l.at + l.i) (take l.i (folded l.s)))
-
-abbrev pub decreases-loop-i : goal.decreases-loop-i
-decreases-loop-i l = length l.s - l.i

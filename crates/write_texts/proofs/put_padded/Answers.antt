@@ -1,24 +1,12 @@
 -- `write_texts::put_padded` meets its contract. Assumes nothing.
-use borrow.Author.Rules.{rules}
-use Rattle.write_texts.proofs.WordLaws.{front_within, front_room, front_wrote}
+use Rattle.write_texts.proofs.WordLaws.{front_long, front_wrote, front_room}
 use Rattle.write_texts.proofs.put_padded.Goals as goal
 
-ruleset laws = (front_within, front_room, front_wrote, rules)
-
-pub padded_len-n-requires : goal.padded_len-n-requires
-padded_len-n-requires c = search laws
-
-pub slice_bounds-put_bytes-start : goal.slice_bounds-put_bytes-start
-slice_bounds-put_bytes-start c = search laws
-
 pub slice_bounds-put_bytes-end : goal.slice_bounds-put_bytes-end
-slice_bounds-put_bytes-end c = search laws
+slice_bounds-put_bytes-end c = front_long _ _ c.padded_len-n.ensures
 
 pub put_bytes-requires : goal.put_bytes-requires
-put_bytes-requires c = search laws
-
-pub shape_of-out : goal.shape_of-out
-shape_of-out c = search laws
+put_bytes-requires c = front_room _ _ c.padded_len-n.ensures _ _ c.requires
 
 pub returns : goal.returns
-returns c = search laws
+returns c = front_wrote _ _ c.padded_len-n.ensures _ _ _ _ c.put_bytes.ensures

@@ -12,7 +12,7 @@ use mir.ValLaws.{to_z_pos}
 use Rattle.line_rows.specs.Rows.{put_one, filling_at}
 use Rattle.line_rows.proofs.columns.put_text.Goals as goal
 
-both : (w : List ℤ) (j a l m : ℕ) → a < 2 ^ 63 → l < 2 ^ 63 → record { row = set (set w j (to_z w64 a)) (j + 1) (to_z w64 l); column = j + 2; at = m; refused = 0 } ≡ put_one (put_one (filling_at w j m) (pos a) m) (pos l) m
+both : (w : List ℤ) (j a l m : ℕ) → a < 2 ^ 63 → l < 2 ^ 63 → record { row = set (set w j (to_z w64 a)) (j + 1) (to_z w64 l); column = j + 2; at = m } ≡ put_one (put_one (filling_at w j m) (pos a) m) (pos l) m
 both w j a l m h k =
     let e : j + 2 ≡ j + 1 + 1 = omega arith in
     rw (e, to_z_pos w64 a h, to_z_pos w64 l k)

@@ -8,20 +8,8 @@ ruleset laws = (test_start, test_over, test_lacks, test_more, rules)
 pub loop-i-init : goal.loop-i-init
 loop-i-init c = search laws
 
-pub spot_of-requires : goal.spot_of-requires
-spot_of-requires c = search laws
-
-pub has_bit-requires : goal.has_bit-requires
-has_bit-requires c = search laws
-
 pub returns-then-not-has_bit : goal.returns-then-not-has_bit
 returns-then-not-has_bit c = search laws
-
-pub overflow_add-i : goal.overflow_add-i
-overflow_add-i c = search laws
-
-pub loop-i-smaller : goal.loop-i-smaller
-loop-i-smaller c = search laws
 
 pub loop-i-preserved : goal.loop-i-preserved
 loop-i-preserved c = search laws

@@ -5,20 +5,11 @@ use Rattle.read.proofs.whole.examined.Goals as goal
 
 ruleset laws = (large_examined, small_examined, rules)
 
-pub refusal-large-requires : goal.refusal-large-requires
-refusal-large-requires c = search laws
-
 pub returns-then-file-gt-LIMIT : goal.returns-then-file-gt-LIMIT
 returns-then-file-gt-LIMIT c = search laws
 
-pub by_few-requires : goal.by_few-requires
-by_few-requires c = search laws
-
 pub returns-then-file-lt-SMALL : goal.returns-then-file-lt-SMALL
 returns-then-file-lt-SMALL c = search laws
-
-pub by_all-requires : goal.by_all-requires
-by_all-requires c = search laws
 
 pub returns : goal.returns
 returns c = search laws

@@ -1,30 +1,16 @@
 -- `same::lists::next_row` meets its contract. Assumes nothing.
-use borrow.Author.Rules.{rules}
-use Rattle.same.proofs.NextLaws.{passing_start, passing_steady, passing_found, passing_more, passing_less, passing_over}
+use Rattle.same.proofs.NextLaws.{passing_found, passing_stop, passing_more, passing_over}
 use Rattle.same.proofs.lists.next_row.Goals as goal
 
-ruleset laws = (passing_start, passing_steady, passing_found, passing_more, passing_less, passing_over, rules)
+pub returns-then-is_row : goal.returns-then-is_row
+returns-then-is_row c = passing_found _ _ c.loop-t.invariant _ _ c.in-Some.ensures.steps _ c.is_row.ensures c.if-is_row.true
 
-pub loop-at-init : goal.loop-at-init
-loop-at-init c = search laws
+pub returns-then-stops : goal.returns-then-stops
+returns-then-stops c = passing_stop _ _ c.loop-t.invariant _ _ c.in-Some.ensures.steps _ c.is_row.ensures _ c.stops.ensures c.if-stops.true
 
-pub turn-t-requires : goal.turn-t-requires
-turn-t-requires c = search laws
-
-pub is_free-requires : goal.is_free-requires
-is_free-requires c = search laws
-
-pub returns-then-not-is_free : goal.returns-then-not-is_free
-returns-then-not-is_free c = search laws
-
-pub loop-at-smaller : goal.loop-at-smaller
-loop-at-smaller c = search laws
-
-pub loop-at-preserved : goal.loop-at-preserved
-loop-at-preserved c = search laws
-
-pub none_at-requires : goal.none_at-requires
-none_at-requires c = search laws
+pub loop-t-preserved : goal.loop-t-preserved
+loop-t-preserved c =
+    passing_more _ _ c.loop-t.invariant _ _ c.in-Some.ensures.steps _ c.is_row.ensures _ c.stops.ensures c.if-is_row.false c.if-stops.false
 
 pub returns : goal.returns
-returns c = search laws
+returns c = passing_over _ _ c.loop-t.invariant _ c.in_default.ensures.steps

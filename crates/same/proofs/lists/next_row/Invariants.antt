@@ -4,8 +4,8 @@ use lib.ListN.{length}
 use Rattle.same.proofs.NextLaws.{Passing}
 use Rattle.same.proofs.lists.next_row.Given as goal
 
-abbrev pub invariant-loop-at : goal.invariant-loop-at
-invariant-loop-at l = Passing l.file l.initial.w l.w l.at
+abbrev pub invariant-loop-t : goal.invariant-loop-t
+invariant-loop-t l = Passing l.initial.lines l.lines
 
-abbrev pub decreases-loop-at : goal.decreases-loop-at
-decreases-loop-at l = length l.file - l.at
+abbrev pub decreases-loop-t : goal.decreases-loop-t
+decreases-loop-t l = length l.lines.file.now - l.lines.walk.at

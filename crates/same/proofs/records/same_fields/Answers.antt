@@ -1,39 +1,18 @@
 -- `same::records::same_fields` meets its contract. Assumes nothing.
 use borrow.Author.Rules.{rules}
-use Rattle.same.proofs.RowLaws.{agreeing_start, agreeing_over, agreeing_type, agreeing_place, agreeing_room, agreeing_not, agreeing_fits, agreeing_more}
+use Rattle.same.proofs.RowLaws.{agreeing_start, agreeing_over, agreeing_place, agreeing_room, agreeing_not, agreeing_fits, agreeing_more}
 use Rattle.same.proofs.records.same_fields.Goals as goal
 
-ruleset laws = (agreeing_start, agreeing_over, agreeing_type, agreeing_place, agreeing_room, agreeing_not, agreeing_fits, agreeing_more, rules)
-
-pub field_count-n-requires : goal.field_count-n-requires
-field_count-n-requires c = search laws
-
-pub row_of-layout-requires : goal.row_of-layout-requires
-row_of-layout-requires c = search laws
+ruleset laws = (agreeing_start, agreeing_over, agreeing_place, agreeing_room, agreeing_not, agreeing_fits, agreeing_more, rules)
 
 pub loop-i-init : goal.loop-i-init
 loop-i-init c = search laws
-
-pub field_type-t-requires : goal.field_type-t-requires
-field_type-t-requires c = search laws
 
 pub agrees_at-requires : goal.agrees_at-requires
 agrees_at-requires c = search laws
 
 pub returns-then-not-agrees_at : goal.returns-then-not-agrees_at
 returns-then-not-agrees_at c = search laws
-
-pub width_of-at-requires : goal.width_of-at-requires
-width_of-at-requires c = search laws
-
-pub overflow_add-at : goal.overflow_add-at
-overflow_add-at c = search laws
-
-pub overflow_add-i : goal.overflow_add-i
-overflow_add-i c = search laws
-
-pub loop-i-smaller : goal.loop-i-smaller
-loop-i-smaller c = search laws
 
 pub loop-i-preserved : goal.loop-i-preserved
 loop-i-preserved c = search laws

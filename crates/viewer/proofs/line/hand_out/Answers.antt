@@ -5,26 +5,23 @@ use Rattle.viewer.proofs.line.hand_out.Goals as goal
 
 ruleset laws = (reply_refused, kept_refused, reply_short, kept_short, put_room, reply_whole, put_whole, rules)
 
-pub fields_in-requires : goal.fields_in-requires
-fields_in-requires c = search laws
+pub returns-then-out-n-clause-value : goal.returns-then-out-n-clause-value
+returns-then-out-n-clause-value c = rw c.number-then-out-n.ensures (search laws)
 
-pub enum_known-n : goal.enum_known-n
-enum_known-n c = search laws
-
-pub enum_known-n-in-Fields-1 : goal.enum_known-n-in-Fields-1
-enum_known-n-in-Fields-1 c = search laws
-
-pub returns-then-out-n : goal.returns-then-out-n
-returns-then-out-n c = search laws
+pub returns-then-out-n-clause-out_after : goal.returns-then-out-n-clause-out_after
+returns-then-out-n-clause-out_after c = search laws
 
 pub put_fields-requires : goal.put_fields-requires
 put_fields-requires c = search laws
 
-pub returns-in-Refused : goal.returns-in-Refused
-returns-in-Refused c = search laws
+pub returns-in-Err-clause-value : goal.returns-in-Err-clause-value
+returns-in-Err-clause-value c = search laws
 
-pub shape_of-out : goal.shape_of-out
-shape_of-out c = search laws
+pub returns-in-Err-clause-out_after : goal.returns-in-Err-clause-out_after
+returns-in-Err-clause-out_after c = search laws
 
-pub returns-else-out-n : goal.returns-else-out-n
-returns-else-out-n c = search laws
+pub returns-else-out-n-clause-value : goal.returns-else-out-n-clause-value
+returns-else-out-n-clause-value c = search laws
+
+pub returns-else-out-n-clause-out_after : goal.returns-else-out-n-clause-out_after
+returns-else-out-n-clause-out_after c = search laws

@@ -4,8 +4,8 @@ use lib.ListN.{length}
 use Rattle.viewer.proofs.PlaceLaws.{Showing}
 use Rattle.viewer.proofs.line.put_fields.Given as goal
 
-abbrev pub invariant-loop-start : goal.invariant-loop-start
-invariant-loop-start l = Showing l.line l.base l.initial.out l.out l.at l.n
+abbrev pub invariant-loop-f : goal.invariant-loop-f
+invariant-loop-f l = Showing l.line l.base l.initial.out l.out l.at l.n
 
-abbrev pub decreases-loop-start : goal.decreases-loop-start
-decreases-loop-start l = length l.line - l.at
+abbrev pub decreases-loop-f : goal.decreases-loop-f
+decreases-loop-f l = length l.line - l.at

@@ -6,9 +6,6 @@ use Rattle.write.proofs.numbers.rise.Goals as goal
 
 ruleset laws = (climb_start, climb_over, climb_place, climb_stop, climb_more, row_in_lem, rows_over, rules)
 
-pub capacity-n-requires : goal.capacity-n-requires
-capacity-n-requires c = search laws
-
 pub loop-i-init : goal.loop-i-init
 loop-i-init c = search laws
 
@@ -21,17 +18,8 @@ overflow_add-line c = search laws
 pub bounds-rows-i : goal.bounds-rows-i
 bounds-rows-i c = search laws
 
-pub is_above-requires : goal.is_above-requires
-is_above-requires c = search laws
-
 pub returns-then-not-is_above : goal.returns-then-not-is_above
 returns-then-not-is_above c = search laws
-
-pub overflow_add-i : goal.overflow_add-i
-overflow_add-i c = search laws
-
-pub loop-i-smaller : goal.loop-i-smaller
-loop-i-smaller c = search laws
 
 pub loop-i-preserved : goal.loop-i-preserved
 loop-i-preserved c = search laws

@@ -1,10 +1,6 @@
 -- What the loops of `rise` keep.
-use Prim.Native.Nat.{◌-◌}
 use Rattle.write.proofs.NumberLaws.{Climbing}
 use Rattle.write.proofs.numbers.rise.Given as goal
 
 abbrev pub invariant-loop-i : goal.invariant-loop-i
 invariant-loop-i l = Climbing l.rows l.last l.i
-
-abbrev pub decreases-loop-i : goal.decreases-loop-i
-decreases-loop-i l = l.n - l.i

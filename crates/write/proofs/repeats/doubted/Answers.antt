@@ -5,26 +5,14 @@ use Rattle.write.proofs.repeats.doubted.Goals as goal
 
 ruleset laws = (doubt_start, doubt_length, doubt_width, doubt_marks, doubt_room, doubt_over, doubt_within, doubt_more, rules)
 
-pub capacity-i-requires : goal.capacity-i-requires
-capacity-i-requires c = search laws
-
 pub loop-i-init : goal.loop-i-init
 loop-i-init c = search laws
-
-pub overflow_sub-at : goal.overflow_sub-at
-overflow_sub-at c = search laws
 
 pub row_at-row-requires : goal.row_at-row-requires
 row_at-row-requires c = search laws
 
-pub leads_component-requires : goal.leads_component-requires
-leads_component-requires c = search laws
-
 pub is_doubtful-doubtful-requires : goal.is_doubtful-doubtful-requires
 is_doubtful-doubtful-requires c = search laws
-
-pub loop-i-smaller : goal.loop-i-smaller
-loop-i-smaller c = search laws
 
 pub loop-i-preserved : goal.loop-i-preserved
 loop-i-preserved c = search laws

@@ -4,6 +4,3 @@ use Rattle.write.proofs.repeats.doubted.Given as goal
 
 abbrev pub invariant-loop-i : goal.invariant-loop-i
 invariant-loop-i l = Doubting l.rows l.bytes l.initial.marks l.marks l.initial.doubts l.doubts l.i l.doubtful
-
-abbrev pub decreases-loop-i : goal.decreases-loop-i
-decreases-loop-i l = l.i

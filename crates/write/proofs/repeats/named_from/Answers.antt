@@ -6,26 +6,14 @@ use Rattle.write.proofs.repeats.named_from.Goals as goal
 
 ruleset laws = (seek_start, seek_over, seek_found, seek_more, row_in_lem, rows_over, rules)
 
-pub capacity-n-requires : goal.capacity-n-requires
-capacity-n-requires c = search laws
-
 pub loop-i-init : goal.loop-i-init
 loop-i-init c = search laws
 
 pub row_at-requires : goal.row_at-requires
 row_at-requires c = search laws
 
-pub names_it-requires : goal.names_it-requires
-names_it-requires c = search laws
-
 pub returns-then-names_it : goal.returns-then-names_it
 returns-then-names_it c = search laws
-
-pub overflow_add-i : goal.overflow_add-i
-overflow_add-i c = search laws
-
-pub loop-i-smaller : goal.loop-i-smaller
-loop-i-smaller c = search laws
 
 pub loop-i-preserved : goal.loop-i-preserved
 loop-i-preserved c = search laws

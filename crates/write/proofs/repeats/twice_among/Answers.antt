@@ -5,14 +5,8 @@ use Rattle.write.proofs.repeats.twice_among.Goals as goal
 
 ruleset laws = (pair_start, pair_told, pair_length, pair_marked, pair_over, pair_within, pair_found, pair_more, rules)
 
-pub capacity-i-requires : goal.capacity-i-requires
-capacity-i-requires c = search laws
-
 pub loop-i-init : goal.loop-i-init
 loop-i-init c = search laws
-
-pub overflow_sub-at : goal.overflow_sub-at
-overflow_sub-at c = search laws
 
 pub row_at-requires : goal.row_at-requires
 row_at-requires c = search laws
@@ -25,9 +19,6 @@ shape_of-marks-then-names_again c = search laws
 
 pub returns-then-names_again : goal.returns-then-names_again
 returns-then-names_again c = search laws
-
-pub loop-i-smaller : goal.loop-i-smaller
-loop-i-smaller c = search laws
 
 pub loop-i-preserved : goal.loop-i-preserved
 loop-i-preserved c = search laws

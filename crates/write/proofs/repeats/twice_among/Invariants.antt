@@ -4,6 +4,3 @@ use Rattle.write.proofs.repeats.twice_among.Given as goal
 
 abbrev pub invariant-loop-i : goal.invariant-loop-i
 invariant-loop-i l = Pairing l.rows l.bytes l.doubts l.initial.marks l.marks l.i
-
-abbrev pub decreases-loop-i : goal.decreases-loop-i
-decreases-loop-i l = l.i

@@ -6,9 +6,6 @@ use Rattle.write.proofs.texts.put_text.Goals as goal
 
 ruleset laws = (write_start, write_same, write_over, write_fits, write_room, write_more, row_in_lem, rows_over, rules)
 
-pub capacity-n-requires : goal.capacity-n-requires
-capacity-n-requires c = search laws
-
 pub loop-i-init : goal.loop-i-init
 loop-i-init c = search laws
 
@@ -17,12 +14,6 @@ row_at-requires c = search laws
 
 pub put_line-at-requires : goal.put_line-at-requires
 put_line-at-requires c = search laws
-
-pub overflow_add-i : goal.overflow_add-i
-overflow_add-i c = search laws
-
-pub loop-i-smaller : goal.loop-i-smaller
-loop-i-smaller c = search laws
 
 pub loop-i-preserved : goal.loop-i-preserved
 loop-i-preserved c = search (write_more, row_in_lem, c.capacity-n.ensures, c.loop-i.invariant, c.loop-i-test.true, c.row_at.ensures, c.put_line-at.ensures)

@@ -1,10 +1,6 @@
 -- What the loops of `put_text` keep.
-use Prim.Native.Nat.{◌-◌}
 use Rattle.write.proofs.TextLaws.{Writing}
 use Rattle.write.proofs.texts.put_text.Given as goal
 
 abbrev pub invariant-loop-i : goal.invariant-loop-i
 invariant-loop-i l = Writing l.v l.rows l.bytes l.initial.out l.out l.at l.i
-
-abbrev pub decreases-loop-i : goal.decreases-loop-i
-decreases-loop-i l = l.n - l.i

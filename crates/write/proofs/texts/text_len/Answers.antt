@@ -6,9 +6,6 @@ use Rattle.write.proofs.texts.text_len.Goals as goal
 
 ruleset laws = (count_start, count_small, count_over, count_fits, count_far, count_more, row_in_lem, rows_over, rules)
 
-pub capacity-n-requires : goal.capacity-n-requires
-capacity-n-requires c = search laws
-
 pub loop-i-init : goal.loop-i-init
 loop-i-init c = search laws
 
@@ -20,12 +17,6 @@ line_len-sum-requires c = search laws
 
 pub returns-then-sum-gt-LIMIT : goal.returns-then-sum-gt-LIMIT
 returns-then-sum-gt-LIMIT c = search laws
-
-pub overflow_add-i : goal.overflow_add-i
-overflow_add-i c = search laws
-
-pub loop-i-smaller : goal.loop-i-smaller
-loop-i-smaller c = search laws
 
 pub loop-i-preserved : goal.loop-i-preserved
 loop-i-preserved c = search (count_more, row_in_lem, c.capacity-n.ensures, c.loop-i.invariant, c.loop-i-test.true, c.row_at.ensures, c.line_len-sum.ensures, c.if-sum-gt-LIMIT.false)

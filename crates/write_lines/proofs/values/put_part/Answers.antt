@@ -1,30 +1,15 @@
 -- `write_lines::values::put_part` meets its contract. Assumes nothing.
 use borrow.Author.Rules.{rules}
-use Rattle.write_lines.proofs.PieceLaws.{room_as, wrote_as, part_end, part_start_lem, part_fits, text_is_lem}
+use Rattle.write_lines.proofs.PieceLaws.{lies_back, room_as, wrote_as, text_is_lem}
 use Rattle.write_lines.proofs.values.put_part.Goals as goal
 
-ruleset laws = (room_as, wrote_as, part_end, part_start_lem, part_fits, text_is_lem, rules)
+ruleset laws = (lies_back, room_as, wrote_as, text_is_lem, rules)
 
-pub magnitude-a-requires : goal.magnitude-a-requires
-magnitude-a-requires c = search laws
-
-pub magnitude-n-requires : goal.magnitude-n-requires
-magnitude-n-requires c = search laws
-
-pub slice_bounds-put_meaning-start : goal.slice_bounds-put_meaning-start
-slice_bounds-put_meaning-start c = search laws
-
-pub slice_bounds-put_meaning-end : goal.slice_bounds-put_meaning-end
-slice_bounds-put_meaning-end c = search laws
+pub part-requires : goal.part-requires
+part-requires c = search laws
 
 pub put_meaning-requires : goal.put_meaning-requires
 put_meaning-requires c = search laws
 
-pub shape_of-out : goal.shape_of-out
-shape_of-out c = search laws
-
 pub returns : goal.returns
 returns c = search laws
-
-pub overflow_add-a : goal.overflow_add-a
-overflow_add-a c = search laws

@@ -1,9 +1,0 @@
--- What the loops of `number` keep.
-use Prim.Native.Nat.{◌-◌}
-use Rattle.run.proofs.columns.number.Given as goal
-
-abbrev pub invariant-loop-i : goal.invariant-loop-i
-invariant-loop-i l = Unit {0}
-
-abbrev pub decreases-loop-i : goal.decreases-loop-i
-decreases-loop-i l = l.end - l.i
