@@ -239,6 +239,8 @@ fn shelf_takes_odd_names_and_unreadable_places() {
     let page = fs::read_to_string(page).expect("a page");
     assert!(page.contains("&lt;b&gt;&amp;.EMP") && !page.contains("<b>"));
     assert_eq!(said("shelf nowhere").1, 2);
+    // `rt ci` takes no folder that has a link in it.
+    fs::remove_file(folder.join("link.emp")).expect("the link");
 }
 
 #[test]
