@@ -6,6 +6,7 @@ use mathlib.Core.Bool.{false}
 use lib.IntN.{pos, negsuc}
 use Rattle.basics.specs.Integers.{eq_z}
 use Rattle.law.specs.declared.refusals.Refusal.TheVariants.{NoNumber, TooFine as FineRefusal, BeyondLimit}
+use Rattle.law.specs.Refusals.{number_of}
 use Rattle.law.specs.Bytes.{permitted, all_of, begins, ascii}
 use Rattle.law.specs.Fields.{field}
 use Rattle.text_fields.specs.FirstField.{span, ends_well, bare_at, field_at, field_of}
@@ -41,7 +42,7 @@ use Rattle.names.specs.Names.{repeat_in}
 use Rattle.law.specs.Answers.{reply}
 use Rattle.read.specs.Replies.{ended_by, surveyed, check_reply}
 
--- a bare field where a length stands, and where the angle of a point stands: its count, or the number of its refusal
+-- a bare field where a length stands, and where the angle of a point stands: its count, or its refusal, whose number the table has too
 abbrev as_length : String → Reply Value
 as_length s = read_field (under Idf3 Board) (Number Length) (field false (ascii s))
 
@@ -62,7 +63,10 @@ pub p_table :
     × (as_angle "360.00001" ≡ refused BeyondLimit)
     × (as_angle "-360" ≡ refused BeyondLimit)
     × (as_angle "-359.99999" ≡ good (number (negsuc 35_999_998)))
+    × (number_of NoNumber ≡ 7)
+    × (number_of FineRefusal ≡ 8)
+    × (number_of BeyondLimit ≡ 10)
     × (check_reply [] ≡ reply 13 1 0)
     × (check_reply (ascii ".HEADER" ++ (10 ∷ (ascii "LIBRARY_FILE 3.0 s 2024/05/06.07:08:09 1" ++ (10 ∷ (ascii ".END_HEADER" ++ (10 ∷ [])))))) ≡ reply 0 0 3)
 unfolding check_reply surveyed ended_by repeat_in trace_at trace_in turn_of line_in judged of_kind data_by filled_by kind_of filled fill_from entry_at line_end content_len end_len line_as begins all_of permitted fields_of fields_in field_of field_at bare_at ends_well span keyword_of key_from folded same_bytes place_of words_of sections section_names kind_at section_of line_of role_of layout_of types_of key_kind data_kind may_stand may_open moved stepped shape_of eq_z meaning is_name named is_in barred kept within beyond read_field read_number body whole decimals to_count digit_here read_integer unsigned digits is_date fits_in is_two date_pieces
-p_table = (refl, refl, refl, refl, refl, refl, refl, refl, refl, refl, refl, refl, refl, refl, refl)
+p_table = (refl, refl, refl, refl, refl, refl, refl, refl, refl, refl, refl, refl, refl, refl, refl, refl, refl, refl)

@@ -38,7 +38,7 @@ tight_walk_line_judge_line κs a r q ws us e f = (e ∙ sym f, refl)
 pub tight_walk_steps_begin : Tight 0 walk_steps_begin.ps walk_steps_begin.r walk_steps_begin_says.Learnt
 tight_walk_steps_begin κs a r q ws us e f = (e ∙ sym f, refl)
 
-pub tight_walk_steps_turn : Tight 1 walk_steps_turn.ps walk_steps_turn.r walk_steps_turn_says.Learnt
+pub tight_walk_steps_turn : Tight 2 walk_steps_turn.ps walk_steps_turn.r walk_steps_turn_says.Learnt
 tight_walk_steps_turn κs a r q ws us e f = (e ∙ sym f, refl)
 
 pub tight_walk_steps_stops : Tight 0 walk_steps_stops.ps walk_steps_stops.r walk_steps_stops_says.Learnt

@@ -30,6 +30,8 @@ use Rattle.order_states.proofs.moved.Kinds as order_states_moved
 use Rattle.order_states.proofs.moved.Reads as order_states_moved_says
 use Rattle.order_states.proofs.stepped.Kinds as order_states_stepped
 use Rattle.order_states.proofs.stepped.Reads as order_states_stepped_says
+use Rattle.order_states.proofs.refusal_number.Kinds as order_states_refusal_number
+use Rattle.order_states.proofs.refusal_number.Reads as order_states_refusal_number_says
 use Rattle.order_states.proofs.refusal_of.Kinds as order_states_refusal_of
 use Rattle.order_states.proofs.refusal_of.Reads as order_states_refusal_of_says
 use Rattle.order_states.proofs.type_at.Kinds as order_states_type_at
@@ -105,6 +107,9 @@ tight_order_states_stepped κs a r q ws us e f = (e ∙ sym f, refl)
 
 pub tight_order_states_refusal_of : Tight 0 order_states_refusal_of.ps order_states_refusal_of.r order_states_refusal_of_says.Learnt
 tight_order_states_refusal_of κs a r q ws us e f = (e ∙ sym f, refl)
+
+pub tight_order_states_refusal_number : Tight 0 order_states_refusal_number.ps order_states_refusal_number.r order_states_refusal_number_says.Learnt
+tight_order_states_refusal_number κs a r q ws us e f = (e ∙ sym f, refl)
 
 pub tight_order_states_type_at : Tight 0 order_states_type_at.ps order_states_type_at.r order_states_type_at_says.Learnt
 tight_order_states_type_at κs a r q ws us e f = (e ∙ sym f, refl)

@@ -1,5 +1,5 @@
 -- Laws of kinds and of the table of layouts.
-use Prim.Native.Nat.{ℕ, zero, suc, ◌+◌, ◌/◌, ◌-◌, ◌≤◌, ◌<◌}
+use Prim.Native.Nat.{ℕ, zero, suc, ◌+◌, ◌*◌, ◌/◌, ◌-◌, ◌≤◌, ◌<◌}
 use mir.Syntax.{w64}
 use mir.Val.{Fits}
 use mathlib.Core.Path.{◌≡◌, refl, ◌∙◌}
@@ -31,9 +31,9 @@ use Rattle.law.specs.declared.Rules.{Rules}
 use Rattle.law.specs.declared.Rules.TheVariants.{Idf3}
 
 -- ten kinds to a section, and none above
-pub in_section : (v : Rules) (k : ℕ) → k ≤ last_kind → k / 10 ≡ section_of v k
+pub in_section : (v : Rules) (k s : ℕ) → s ≤ 15 → 10 * s ≤ k → k ≤ 10 * s + 9 → s ≡ section_of v k
 unfolding section_of
-in_section Idf3 k h = rw (le-leb k last_kind h)
+in_section Idf3 k s h l u = let e : s ≡ k / 10 = omega arith in rw (le-leb k last_kind (omega arith)) e
 
 pub no_section : (v : Rules) (k : ℕ) → last_kind < k → 0 ≡ section_of v k
 unfolding section_of

@@ -53,13 +53,29 @@ static LINES: [[u8; 10]; 16] = [
     *b"ANO@@@@@@A", // MECHANICAL
 ];
 
-// The section of a row's kind, 0 where no section has it.
-#[tactic(auto, using(crate::proofs::KindLaws::in_section, crate::proofs::KindLaws::no_section))]
+// The section of a row's kind, 0 where no section has it. By ranges, the form that document 01 names for this place (docs/DECISIONS.md, item 160).
 pub fn section_of(v: Rules, kind: u64) -> u64
     ensures { result ≡ section_of v kind }
 {
     match v {
-        Rules::Idf3 => if kind <= LAST_KIND { kind / 10 } else { 0 },
+        Rules::Idf3 => match kind {
+            10..=19 => 1,
+            20..=29 => 2,
+            30..=39 => 3,
+            40..=49 => 4,
+            50..=59 => 5,
+            60..=69 => 6,
+            70..=79 => 7,
+            80..=89 => 8,
+            90..=99 => 9,
+            100..=109 => 10,
+            110..=119 => 11,
+            120..=129 => 12,
+            130..=139 => 13,
+            140..=149 => 14,
+            150..=159 => 15,
+            _ => 0,
+        },
     }
 }
 

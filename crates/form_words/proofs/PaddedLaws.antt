@@ -1,15 +1,16 @@
 -- Laws of padded rows: compared with bytes, and what a match says of the row without its padding.
-use Prim.Native.Nat.{ℕ, ◌≤◌, ◌<◌}
-use mathlib.Core.Path.{◌≡◌, refl, sym, ap}
+use Prim.Native.Nat.{ℕ, zero, suc, ◌≤◌, ◌<◌}
+use mathlib.Core.Path.{◌≡◌, refl, sym, ap, ◌∙◌}
 use mathlib.Core.List.{List, [], ◌∷◌}
-use mathlib.Core.Bool.{Bool, true, false, cond, not, ◌&&◌, true≢false, false≢true}
+use mathlib.Core.Bool.{Bool, true, false, cond, not, ◌&&◌, ◌||◌, true≢false, false≢true}
 use native.Mathlib.Omega.{arith}
-use lib.Dec.{eqb}
-use borrow.Author.Tests.{eq-eqb, ne_eqb}
+use lib.Dec.{leb, eqb, leb-suc-zero, leb-suc-suc}
+use borrow.Author.Tests.{eq-eqb, ne_eqb, le-leb}
 use lib.ListN.{length, get_or}
 use Rattle.std.specs.List.{list_all, zip}
+use Rattle.basics.proofs.Bools.{and_left, and_right}
 use Rattle.law.specs.Words.{same_bytes, capital, folded}
-use Rattle.form_words.specs.Padded.{trimmed, agree, matched}
+use Rattle.form_words.specs.Padded.{trimmed, agree, agrees_at, matched}
 
 -- more bytes than the row has are not the row's
 pub matched_long : (row s : List ℕ) → length row < length s → false ≡ matched row s
@@ -62,7 +63,24 @@ pub matched_by : (row s : List ℕ) (a : Bool) → a ≡ list_all agree (zip row
 matched_by row s true e h g = matched_all row s true (sym e) h (λ i. refl) (λ i. sym (eq-eqb _ _ (g i)))
 matched_by row s false e h g = matched_not row s (sym e)
 
-pub ruleset matching = (matched_long, matched_longer, matched_by)
+-- A byte that tells rows apart: bytes that do not agree there are not the row's
+agreed : (row s : List ℕ) (at : ℕ) → matched row s ≡ true → (leb (length s) at || eqb (get_or row at 0) (capital (get_or s at 0))) ≡ true
+unfolding matched
+agreed [] [] at h = rw (le-leb 0 at (omega arith))
+agreed [] (b ∷ s) at h = absurd (false≢true h)
+agreed (r ∷ row) [] at h = rw (le-leb 0 at (omega arith))
+agreed (r ∷ row) (b ∷ s) zero h = rw (leb-suc-zero (length s)) (and_left (eqb r (capital b)) _ (and_right (not (eqb r 32)) _ h))
+agreed (r ∷ row) (b ∷ s) (suc at) h = rw (leb-suc-suc (length s) at) (agreed row s at (and_right (eqb r (capital b)) _ (and_right (not (eqb r 32)) _ h)))
+
+pub matched_there : (row s : List ℕ) (at : ℕ) (t : Bool) → t ≡ agrees_at row s at → t ≡ false → false ≡ matched row s
+unfolding agrees_at
+matched_there row s at t e h = go (matched row s) refl
+  where
+    go : (m : Bool) → matched row s ≡ m → false ≡ m
+    go true k = absurd (true≢false (sym (agreed row s at k) ∙ sym e ∙ h))
+    go false k = refl
+
+pub ruleset matching = (matched_long, matched_longer, matched_by, matched_there)
 
 -- a row matches the bytes that it holds before its padding
 pub matched_is : (row s : List ℕ) → matched row s ≡ same_bytes (trimmed row) (folded s)
@@ -79,5 +97,3 @@ matched_is (r ∷ row) (b ∷ s) = go (eqb r 32) (matched_is row s)
     go : (t : Bool) → matched row s ≡ same_bytes (trimmed row) (folded s) → not t && (eqb r (capital b) && matched row s) ≡ same_bytes (cond t [] (r ∷ trimmed row)) (capital b ∷ folded s)
     go true e = refl
     go false e = ap (λ (m : Bool). eqb r (capital b) && m) e
-
--- A byte that tells rows apart

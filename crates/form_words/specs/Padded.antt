@@ -1,5 +1,5 @@
 -- The tables of keywords and words as the code has them: rows padded with spaces; and rows compared with bytes.
-use Rattle.std.specs.Prelude.{ℕ, suc, ◌+◌, ◌-◌, List, [], ◌∷◌, Bool, true, false, cond, not, ◌&&◌, ◌||◌, ltb, eqb, get_or, take, drop, Option, Some, None}
+use Rattle.std.specs.Prelude.{ℕ, suc, ◌+◌, ◌-◌, List, [], ◌∷◌, Bool, true, false, cond, not, ◌&&◌, ◌||◌, leb, ltb, eqb, length, get_or, take, drop, Option, Some, None}
 use Rattle.std.proofs.Math.Option.{Option as Place, none, some}
 use Rattle.law.specs.Bytes.{ascii}
 use Rattle.form.specs.declared.Keyword.{Keyword}
@@ -18,6 +18,10 @@ trimmed (b ∷ s) = cond (eqb b 32) [] (b ∷ trimmed s)
 -- a byte of a row before its padding, and one that is in capitals the same
 abbrev pub agree : ℕ × ℕ → Bool
 agree p = not (eqb p.0 32) && eqb p.0 (capital p.1)
+
+-- do a row and bytes agree at a place, or do the bytes end before it?
+unfoldable pub agrees_at : List ℕ → List ℕ → ℕ → Bool
+agrees_at row s at = leb (length s) at || eqb (get_or row at 0) (capital (get_or s at 0))
 
 -- bytes that are in capitals those of a padded row
 unfoldable pub matched : List ℕ → List ℕ → Bool

@@ -5,6 +5,9 @@ pub(crate) const NAMES: usize = 0;
 
 pub(crate) const CLOSING_FORMS: usize = 15;
 
+// The place of the byte that tells closing forms apart, which all begin with END_.
+pub(crate) const FIFTH: usize = 4;
+
 // A static, so that a row is read where it lies and the table is never copied.
 pub(crate) static KEYWORDS: [[u8; 20]; 30] = [
     *b"HEADER              ",

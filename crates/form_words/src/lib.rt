@@ -9,10 +9,10 @@ ghost use Rattle.form.specs.Compare.{place_of};
 ghost use Rattle.law.specs.Words.{folded, same_bytes, prop_word, words_of};
 ghost use Rattle.form.specs.Reading.{keyword_of};
 ghost use Rattle.std.specs.List.{list_all, zip};
-ghost use Rattle.form_words.specs.Padded.{agree, matched, sought, found, rows_of, word_row, keyword_row, name_row, closing_row, closing_of};
+ghost use Rattle.form_words.specs.Padded.{agree, agrees_at, matched, sought, found, rows_of, word_row, keyword_row, name_row, closing_row, closing_of};
 
 use form::Keyword;
-use keywords::{CLOSING_FORMS, KEYWORDS, NAMES};
+use keywords::{CLOSING_FORMS, FIFTH, KEYWORDS, NAMES};
 use law::{Rules, Words};
 use words::WORDS;
 
@@ -25,12 +25,26 @@ fn agrees(row: &[u8], s: &[u8]) -> bool
         .all(|(r, b)| *r != b' ' && *r == basics::capital_of(*b))
 }
 
-// Whether bytes are, in any letter case, those of a padded row. A longer row is passed over first: most closing keywords
-// agree in their front.
+// Whether a row has at a place the byte of others, in any letter case, or these end before it.
+#[tactic(auto, unfolding(crate::specs::Padded::agrees_at))]
+fn agrees_at(row: &[u8], s: &[u8], at: usize) -> bool
+    ensures { result ≡ agrees_at row.now s.now at }
+{
+    s.len() <= at || row.get(at).copied().unwrap_or(0) == basics::capital_of(s[at])
+}
+
+// Whether bytes are, in any letter case, those of a padded row. A row is compared only where it agrees at the first place and at
+// another, which tell most rows apart, and where it is not longer than the bytes.
 #[tactic(auto, using(crate::proofs::PaddedLaws::matching))]
-fn matches(row: &[u8], s: &[u8]) -> bool
+fn matches(row: &[u8], s: &[u8], tells: usize) -> bool
     ensures { result ≡ matched row.now s.now }
 {
+    if !agrees_at(row, s, 0) {
+        return false;
+    }
+    if !agrees_at(row, s, tells) {
+        return false;
+    }
     let n = s.len();
     if row.len() < n {
         return false;
@@ -41,14 +55,14 @@ fn matches(row: &[u8], s: &[u8]) -> bool
     agrees(row, s)
 }
 
-// The place from 0 of the bytes, in any letter case, among some rows.
-fn place_among<const N: usize>(rows: &[[u8; N]], s: &[u8]) -> Option<usize>
+// The place from 0 of the bytes, in any letter case, among some rows, of which the byte at a place tells most apart.
+fn place_among<const N: usize>(rows: &[[u8; N]], s: &[u8], tells: usize) -> Option<usize>
     ensures { result ≡ sought 0 rows.now s.now }
 {
     rows.iter().position(
         |row: &[u8; N]| -> bool
             ensures { result ≡ matched row.now s.entry.now }
-        { matches(row, s) },
+        { matches(row, s, tells) },
     )
 }
 
@@ -74,7 +88,7 @@ fn rows_of(v: Rules, l: Words) -> &'static [[u8; 16]]
 pub fn place_of(v: Rules, l: Words, s: &[u8]) -> Option<u64>
     ensures { result ≡ found (place_of (words_of v l) (folded s.now)) }
 {
-    place_among(rows_of(v, l), s).map(|n| n as u64)
+    place_among(rows_of(v, l), s, 0).map(|n| n as u64)
 }
 
 // The row of a word, by its place in its list; a blank one where the list has no such place.
@@ -98,7 +112,7 @@ pub fn is_prop(s: &[u8]) -> bool
 fn closing(s: &[u8]) -> Keyword
     ensures { result ≡ closing_of s.now }
 {
-    match place_among(&KEYWORDS[CLOSING_FORMS..], s) {
+    match place_among(&KEYWORDS[CLOSING_FORMS..], s, FIFTH) {
         Some(n) => Keyword::Closing(n as u64 + 1),
         None => Keyword::Unknown,
     }
@@ -111,7 +125,7 @@ pub fn read_keyword(s: &[u8]) -> Keyword
     let Some(name) = s.strip_prefix(b".") else {
         return Keyword::Unknown;
     };
-    match place_among(&KEYWORDS[NAMES..CLOSING_FORMS], name) {
+    match place_among(&KEYWORDS[NAMES..CLOSING_FORMS], name, FIFTH) {
         Some(n) => Keyword::Opening(n as u64 + 1),
         None => closing(name),
     }

@@ -1,5 +1,5 @@
 -- Laws of a row as it is filled: what an entry is like by its type, and one field more.
-use Rattle.std.proofs.Common.{Option as Maybe, Some, None, Result, Ok, Err}
+use Rattle.std.proofs.Common.{Option as Maybe, Some, None, Result, Ok, Err, OnErr}
 use Prim.Native.Nat.{ℕ, zero, suc, ◌+◌, ◌^◌, ◌≤◌, ◌<◌}
 use mathlib.Core.Path.{◌≡◌, refl, sym, ap, ◌∙◌, subst}
 use mathlib.Core.List.{List, [], ◌∷◌}
@@ -11,8 +11,6 @@ use mir.Val.{Fits, SFits, to_z}
 use mir.ValLaws.{to_z-of_z, to_z_pos}
 use lib.IntN.{ℤ, pos}
 use lib.ListN.{length, take, drop, length-drop, drop_of_length-le}
-use lib.Dec.{eqb}
-use borrow.Author.Tests.{eq-eqb, ne_eqb}
 use Rattle.basics.proofs.Bools.{none_some}
 use Rattle.basics.proofs.Integers.{back}
 use Rattle.law.specs.Fields.{Field, field}
@@ -45,11 +43,12 @@ use Rattle.law.specs.declared.Limit.{Limit}
 use Rattle.law.specs.declared.FieldType.{FieldType}
 use Rattle.law.specs.declared.FieldType.TheVariants.{Text as T, Date as D, Integer as I, Number as N, Word as W}
 use Rattle.law.specs.Rows.{width}
-use Rattle.line_rows.specs.Rows.{entry_of, entry_by, entry_at, filling_at, filling_of, filled_as, put_one, put_entry, put_next, FieldRoom, onward, fill_from}
+use Rattle.line_rows.specs.Rows.{entry_of, entry_by, entry_at, filling_at, filling_of, filled_as, stopped_at, refused_alone, put_one, put_entry, put_next, begun, FieldRoom, onward, fill_from, filled, onward_until, fill_until, filled_until}
 use Rattle.line_rows.specs.declared.Entry.{Entry}
 use Rattle.line_rows.specs.declared.Entry.TheVariants.{Number, Word, Text}
 use Rattle.line_rows.specs.declared.Filling.{Filling}
 use Rattle.line_rows.specs.declared.Placed.{Placed}
+use Rattle.line_rows.specs.declared.Stop.{Stop}
 
 -- the place of a word is below its list's length, which is small
 place_below : (ws : List (List ℕ)) (s : List ℕ) (n : ℕ) → place_of ws s ≡ some n → n < length ws
@@ -201,7 +200,7 @@ pub record Fills (c : Context) (k : ℕ) (s : List ℕ) (b m n : ℕ) (u w : Lis
   pub place : p ≤ length s
   pub small : b + length s < 2 ^ 62
   pub columns : j + widths (drop i (types_of c.rules k)) ≤ width
-  pub left : fill_from c b s (drop i (types_of c.rules k)) (filling_at w j p) ≡ fill_from c b s (types_of c.rules k) (filling_at u 1 m)
+  pub left : fill_until c b s (drop i (types_of c.rules k)) (filling_at w j p) ≡ fill_until c b s (types_of c.rules k) (filling_at u 1 m)
 
 pub fills_start : (c : Context) (k : ℕ) (s : List ℕ) (b m n : ℕ) (u : List ℤ) → n ≡ length (types_of c.rules k) → length u ≡ width → m ≤ length s → b + length s < 2 ^ 62 → Fills c k s b m n u u 1 m 0
 fills_start c k s b m n u e d h l = record {
@@ -216,8 +215,8 @@ fills_start c k s b m n u e d h l = record {
 }
 
 module _ (c : Context) (k : ℕ) (s : List ℕ) (b m n : ℕ) (u w : List ℤ) (j p i : ℕ) (r : Fills c k s b m n u w j p i) where
-  pub fills_over : n ≤ i → Ok (filling_at w j p) ≡ fill_from c b s (types_of c.rules k) (filling_at u 1 m)
-  unfolding fill_from
+  pub fills_over : n ≤ i → Ok (filling_at w j p) ≡ fill_until c b s (types_of c.rules k) (filling_at u 1 m)
+  unfolding fill_until
   fills_over h =
       let l : length (types_of c.rules k) ≤ i = omega (arith, r.count) in
       rw (drop_of_length-le (types_of c.rules k) l) at r.left
@@ -236,13 +235,15 @@ module _ (c : Context) (k : ℕ) (s : List ℕ) (b m n : ℕ) (u w : List ℤ) (
       pub fills_room : FieldRoom t s b (filling_at w j p)
       fills_room = record { columns = rw e (omega (arith, r.columns, widths_here (types_of c.rules k) i fills_type)); within = r.place; small = r.small }
 
-      step : (g : Result Filling Refusal) → g ≡ put_next b (filling_at w j p) (entry_at c t p s) → fill_from c b s (drop i (types_of c.rules k)) (filling_at w j p) ≡ onward g (fill_from c b s (drop (i + 1) (types_of c.rules k)))
-      unfolding fill_from
+      step : (g : Result Filling Refusal) → g ≡ put_next b (filling_at w j p) (entry_at c t p s) → fill_until c b s (drop i (types_of c.rules k)) (filling_at w j p) ≡ onward_until (filling_at w j p) g (fill_until c b s (drop (i + 1) (types_of c.rules k)))
+      unfolding fill_until
       step g d = rw (type_here (types_of c.rules k) i fills_type, d, e)
 
       module _ (v : List ℤ) (q : Result Placed Refusal) (d : filled_as v q ≡ put_next b (filling_at w j p) (entry_at c t p s)) where
-        pub fills_refused : (e : Refusal) → q ≡ Err e → Err e ≡ fill_from c b s (types_of c.rules k) (filling_at u 1 m)
-        fills_refused e o = sym (rw o at (step (filled_as v q) d)) ∙ r.left
+        pub fills_refused : (e : Refusal) → OnErr q (v ≡ w) → q ≡ Err e → Err (stopped_at (filling_at v j p) e) ≡ fill_until c b s (types_of c.rules k) (filling_at u 1 m)
+        fills_refused e l o =
+            let x : v ≡ w = rw o at l in
+            rw x (sym (rw o at (step (filled_as v q) d)) ∙ r.left)
 
         pub fills_more : (g : Placed) → length v ≡ length w → q ≡ Ok g → Fills c k s b m n u v g.column g.at (i + 1)
         fills_more g l o =
@@ -258,3 +259,23 @@ module _ (c : Context) (k : ℕ) (s : List ℕ) (b m n : ℕ) (u w : List ℤ) (
               columns = omega (arith, x.columns, r.columns, widths_here (types_of c.rules k) i fills_type, y);
               left = sym (rw o at (step (filled_as v q) d)) ∙ r.left;
             }
+
+-- the row that the code begins with
+pub fills_begun : (c : Context) (k b : ℕ) (s : List ℕ) (m : ℕ) (x : Result Filling Stop) → k < 2 ^ 63 → x ≡ fill_until c b s (types_of c.rules k) (filling_at (to_z w64 k ∷ pos 0 ∷ pos 0 ∷ pos 0 ∷ pos 0 ∷ pos 0 ∷ pos 0 ∷ pos 0 ∷ pos 0 ∷ pos 0 ∷ []) 1 m)
+    → x ≡ filled_until c k b s m
+unfolding filled_until
+fills_begun c k b s m x h e = e ∙ rw (to_z_pos w64 k h)
+
+-- the refusal of a row that stopped is the one that `filled` gives
+alone_onward : (f : Filling) (x : Result Filling Refusal) (g : Filling → Result Filling Stop) (h : Filling → Result Filling Refusal) → ((y : Filling) → refused_alone (g y) ≡ h y) → refused_alone (onward_until f x g) ≡ onward x h
+alone_onward f (Ok y) g h e = e y
+alone_onward f (Err n) g h e = refl
+
+pub alone_from : (c : Context) (b : ℕ) (s : List ℕ) (ts : List FieldType) (f : Filling) → refused_alone (fill_until c b s ts f) ≡ fill_from c b s ts f
+unfolding fill_until fill_from
+alone_from c b s [] f = refl
+alone_from c b s (t ∷ ts) f = alone_onward f (put_next b f (entry_at c t f.at s)) (fill_until c b s ts) (fill_from c b s ts) (alone_from c b s ts)
+
+pub alone_filled : (c : Context) (k b : ℕ) (s : List ℕ) (m : ℕ) → refused_alone (filled_until c k b s m) ≡ filled c k b s m
+unfolding filled_until filled
+alone_filled c k b s m = alone_from c b s (types_of c.rules k) (begun k m)

@@ -15,7 +15,9 @@ use Rattle.law.specs.declared.refusals.Refusal.TheVariants.{BrokenQuoting, Field
 use Rattle.line_rows.specs.declared.Entry.{Entry}
 use Rattle.line_rows.specs.declared.Entry.TheVariants.{Number, Word, Text}
 use Rattle.line_rows.specs.declared.Filling.{Filling}
+use Rattle.line_rows.specs.declared.Halt.{Halt}
 use Rattle.line_rows.specs.declared.Placed.{Placed}
+use Rattle.line_rows.specs.declared.Stop.{Stop}
 
 -- a value that stands from a on, l bytes long, before the place m
 abbrev pub entry_as : ℕ → ℕ → ℕ → Value → Entry
@@ -48,6 +50,20 @@ filling_of w p = record { row = w; column = p.column; at = p.at }
 abbrev pub filled_as : List ℤ → Result Placed Refusal → Result Filling Refusal
 filled_as w (Ok p) = Ok (filling_of w p)
 filled_as w (Err e) = Err e
+
+-- a row in front of a field that was refused
+abbrev pub stopped_at : Filling → Refusal → Stop
+stopped_at f e = record { refusal = e; filling = f }
+
+-- the same, or where it stopped
+abbrev pub stopped_as : List ℤ → Result Placed Halt → Result Filling Stop
+stopped_as w (Ok p) = Ok (filling_of w p)
+stopped_as w (Err h) = Err (stopped_at (filling_of w h.placed) h.refusal)
+
+-- of where it stopped the refusal alone
+abbrev pub refused_alone : Result Filling Stop → Result Filling Refusal
+refused_alone (Ok f) = Ok f
+refused_alone (Err e) = Err e.refusal
 
 -- one column more
 abbrev pub put_one : Filling → ℤ → ℕ → Filling
@@ -87,3 +103,17 @@ fill_from c b s (t ∷ ts) f = onward (put_next b f (entry_at c t f.at s)) (fill
 -- the row of a line of kind k from the place m on, or the refusal of its first bad field
 unfoldable pub filled : Context → ℕ → ℕ → List ℕ → ℕ → Result Filling Refusal
 filled c k b s m = fill_from c b s (types_of c.rules k) (begun k m)
+
+-- on with a row f and the next entry in it, up to a refusal, which leaves f as it is
+abbrev pub onward_until : Filling → Result Filling Refusal → (Filling → Result Filling Stop) → Result Filling Stop
+onward_until f (Ok g) more = more g
+onward_until f (Err e) more = Err (stopped_at f e)
+
+-- the same fields, and the row in front of the first that is refused
+unfoldable pub fill_until : Context → ℕ → List ℕ → List FieldType → Filling → Result Filling Stop
+fill_until c b s [] f = Ok f
+fill_until c b s (t ∷ ts) f = onward_until f (put_next b f (entry_at c t f.at s)) (fill_until c b s ts)
+
+-- the row of a line of kind k from the place m on, or the refusal of its first bad field and the row in front of it
+unfoldable pub filled_until : Context → ℕ → ℕ → List ℕ → ℕ → Result Filling Stop
+filled_until c k b s m = fill_until c b s (types_of c.rules k) (begun k m)

@@ -1,10 +1,10 @@
 // The row of a line: its kind, then its fields in their order, a text as its start in the file and its length.
-ghost use Rattle.std.specs.Prelude.{◌≡◌, ◌+◌, ◌^◌, ◌≤◌, ◌<◌, pos, length};
+ghost use Rattle.std.specs.Prelude.{◌≡◌, ◌+◌, ◌^◌, ◌≤◌, ◌<◌, pos, length, OnErr};
 ghost use Rattle.law.specs.Layouts.{types_of};
 ghost use Rattle.law.specs.Rows.{width};
-ghost use Rattle.line_rows.specs.Rows.{entry_at, filling_at, filling_of, filled_as, put_one, put_next, FieldRoom, fill_from, filled};
+ghost use Rattle.line_rows.specs.Rows.{entry_at, filling_at, filling_of, filled_as, stopped_as, put_one, put_next, FieldRoom, fill_until, filled_until};
 
-use crate::{Entry, Filling, Placed};
+use crate::{Entry, Filling, Halt, Placed, Stop};
 use law::refusals::Refusal;
 use law::{Context, FieldType};
 use line_fields::FieldValue;
@@ -55,7 +55,7 @@ fn put_text(row: &mut [i64], column: usize, start: usize, len: usize, at: usize)
     }
 }
 
-// The row with one field more, or the field's refusal; the line starts at `base` in the file.
+// The row with one field more, or the field's refusal and the row as it was; the line starts at `base` in the file.
 fn put_field(
     c: Context,
     t: FieldType,
@@ -66,7 +66,8 @@ fn put_field(
     at: usize,
 ) -> Result<Placed, Refusal>
     requires { (length row.old ≡ width) × FieldRoom t s.now base (filling_at row.old column at) }
-    ensures { filled_as row.new result ≡ put_next base (filling_at row.old column at) (entry_at c t at s.now) }
+    ensures value { filled_as row.new result ≡ put_next base (filling_at row.old column at) (entry_at c t at s.now) }
+    ensures row_kept { OnErr result (row.new ≡ row.old) }
 {
     Ok(match next_entry(c, t, s, at)? {
         Entry::Number(z, m) => put_one(row, column, z, m),
@@ -75,7 +76,7 @@ fn put_field(
     })
 }
 
-// The fields of a line of a kind from a place on into a row whose first column is there, up to the first that is refused.
+// The fields of a line of a kind from a place on into a row whose first column is there, up to the first that is refused, which leaves the row as it is.
 fn fill_row(
     c: Context,
     kind: u64,
@@ -83,9 +84,9 @@ fn fill_row(
     base: usize,
     row: &mut [i64],
     from: usize,
-) -> Result<Placed, Refusal>
+) -> Result<Placed, Halt>
     requires { (length row.old ≡ width) × (from ≤ length s.now) × (base + length s.now < 2 ^ 62) }
-    ensures { filled_as row.new result ≡ fill_from c base s.now (types_of c.rules kind) (filling_at row.old 1 from) }
+    ensures { stopped_as row.new result ≡ fill_until c base s.now (types_of c.rules kind) (filling_at row.old 1 from) }
 {
     let v = c.rules;
     let n = form_layouts::field_count(v, kind);
@@ -94,23 +95,35 @@ fn fill_row(
     let mut at = from;
     for i in 0..n {
         let t = form_layouts::field_type(v, kind, layout, i);
-        let p = put_field(c, t, s, base, row, column, at)?;
-        column = p.column;
-        at = p.at;
+        match put_field(c, t, s, base, row, column, at) {
+            Ok(p) => {
+                column = p.column;
+                at = p.at;
+            }
+            Err(refusal) => return Err(Halt {
+                refusal,
+                placed: Placed { column, at },
+            }),
+        }
     }
     Ok(Placed { column, at })
 }
 
-// The row of a line of a kind from a place on, or the refusal of its first bad field; the line starts at `base` in the file.
-pub fn fill(c: Context, kind: u64, s: &[u8], base: usize, from: usize) -> Result<Filling, Refusal>
+// The row of a line of a kind from a place on, or the refusal of its first bad field and the row in front of it; the line starts at `base` in the file.
+#[tactic(auto, using(crate::proofs::FillLaws::fills_begun))]
+pub fn fill(c: Context, kind: u64, s: &[u8], base: usize, from: usize) -> Result<Filling, Stop>
     requires { (from ≤ length s.now) × (base + length s.now < 2 ^ 62) × (kind < 2 ^ 63) }
-    ensures { result ≡ filled c kind base s.now from }
+    ensures { result ≡ filled_until c kind base s.now from }
 {
     let mut row = [kind as i64, 0, 0, 0, 0, 0, 0, 0, 0, 0];
-    let p = fill_row(c, kind, s, base, &mut row, from)?;
-    Ok(Filling {
-        row,
-        column: p.column,
-        at: p.at,
-    })
+    match fill_row(c, kind, s, base, &mut row, from) {
+        Ok(Placed { column, at }) => Ok(Filling { row, column, at }),
+        Err(Halt { refusal, placed }) => {
+            let Placed { column, at } = placed;
+            Err(Stop {
+                refusal,
+                filling: Filling { row, column, at },
+            })
+        }
+    }
 }

@@ -4,6 +4,7 @@
 pub mod columns;
 pub mod looks;
 
+use law::refusals::Refusal;
 use rows::WIDTH;
 
 // A line: a comment or blank; a keyword line; a data line, which begins with the bare word PROP or not.
@@ -31,9 +32,23 @@ pub struct Filling {
     pub at: usize,
 }
 
+// Where the filling of a row stopped: the refusal of a field, and the row with the columns in front of it.
+#[derive(Clone, Copy)]
+pub struct Stop {
+    pub refusal: Refusal,
+    pub filling: Filling,
+}
+
 // What is known of a row beside its columns: the next one, and the place in the line.
 #[derive(Clone, Copy)]
 struct Placed {
     column: usize,
     at: usize,
+}
+
+// What is known beside its columns of a row whose filling stopped: the refusal, and what was known before.
+#[derive(Clone, Copy)]
+struct Halt {
+    refusal: Refusal,
+    placed: Placed,
 }

@@ -3,19 +3,24 @@ use Prim.Native.Nat.{ℕ, ◌≤◌, ◌<◌}
 use mathlib.Core.Path.{◌≡◌, refl, sym, ap, ◌∙◌}
 use mathlib.Core.List.{List}
 use mathlib.Core.Bool.{Bool, true, false, ◌&&◌, true≢false, false≢true, and_assoc}
-use borrow.Author.Tests.{lt-ltb, le-ltb}
+use native.Mathlib.Omega.{arith}
+use borrow.Author.Tests.{lt-ltb, le-ltb, ltb-true, ltb-false}
 use lib.Dec.{ltb}
 use lib.IntN.{ℤ}
+use lib.ListN.{length}
+use Rattle.law.specs.Answers.{limit}
 use Rattle.rows.specs.RowKinds.{leads_component}
 use Rattle.rows_texts.specs.Names.{same_names}
 use Rattle.walk.specs.declared.Found.{Found}
 use Rattle.walk.specs.declared.Found.TheVariants.{Row, Nothing, Refused}
+use Rattle.walk.specs.declared.Walk.{Walk}
 use Rattle.walk.specs.declared.Turn.{Turn}
 use Rattle.walk.specs.declared.steps.Turns.{Turns}
 use Rattle.walk.specs.Turns.{Took, Over}
-use Rattle.walk.specs.Walks.{begun, stops_by, is_row, Trace, trace_by, trace_at}
+use Rattle.walk.specs.Walks.{begun, turn_of, stops_by, is_row, Trace, trace_by, trace_at}
 use Rattle.names.specs.Names.{is_named, names_same, used_in, is_used, repeat_in}
-use Rattle.walk.proofs.TurnsLaws.{Left, over_trace, took_left, took_trace}
+use Rattle.walk.proofs.WalkLaws.{Going, going_start, going_trace, going_end}
+use Rattle.walk.proofs.TurnsLaws.{Left, left_going, over_trace, took_left, took_line, took_trace}
 
 -- a line that names the same component, on the way to line n
 module _ (file : List ℕ) (n l : ℕ) (x row : List ℤ) (t : Trace) where
@@ -44,14 +49,33 @@ module _ (file : List ℕ) (n l : ℕ) (x row : List ℤ) (t : Trace) where
   used_none Nothing h = absurd (false≢true h)
   used_none (Refused m) h = refl
 
--- what is left of a file tells whether a name is used
+-- what is left of a file from line n on tells nothing
+late_left : (file : List ℕ) (n : ℕ) (x : List ℤ) (w : Walk) → Going file w w.at → n ≤ w.line → used_in file n x (trace_at file w) ≡ false
+unfolding used_in
+late_left file n x w g l = go (ltb w.at (length file)) refl
+  where
+    next : Turn
+    next = turn_of file w
+
+    go : (t : Bool) → ltb w.at (length file) ≡ t → used_in file n x (trace_at file w) ≡ false
+    go true e =
+        ap (used_in file n x) (going_trace file w w.at g (ltb-true w.at (length file) e) next refl)
+        ∙ used_late file n w.line x next.row (trace_at file next.walk) next.found (le-ltb w.line n l)
+    go false e = ap (used_in file n x) (going_end file w w.at g (ltb-false w.at (length file) e))
+
+-- what is left of a file tells whether a name is used, and begins before line n
 pub record Seeking (file : List ℕ) (n : ℕ) (x : List ℤ) (s : Turns) : Type 0 where
   pub of : Left file s
+  pub before : s.walk.line < n
   pub left : used_in file n x (trace_at file s.walk) ≡ is_used file n x
 
+-- no line stands before the first
+pub seek_none : (file : List ℕ) (n : ℕ) (x : List ℤ) → length file ≤ limit → n < 2 → false ≡ is_used file n x
+seek_none file n x h l = sym (late_left file n x begun (going_start file begun h refl) (omega arith))
+
 module _ (file : List ℕ) (n : ℕ) (x : List ℤ) (s : Turns) where
-  pub seek_start : s.file.now ≡ file → s.walk ≡ begun → Seeking file n x s
-  seek_start f e = record { of = record { of = f }; left = rw e }
+  pub seek_start : s.file.now ≡ file → s.walk ≡ begun → 2 ≤ n → Seeking file n x s
+  seek_start f e l = record { of = record { of = f }; before = omega (arith, ap (λ (w : Walk). w.line) e); left = rw e }
 
   module _ (g : Seeking file n x s) where
     pub seek_over : (u : Turns) → Over s u → false ≡ is_used file n x
@@ -62,10 +86,10 @@ module _ (file : List ℕ) (n : ℕ) (x : List ℤ) (s : Turns) where
       traced : used_in file n x (trace_by t.found t.line t.row (trace_at file u.walk)) ≡ is_used file n x
       traced = sym (ap (used_in file n x) (took_trace file s g.of t u k)) ∙ g.left
 
-      pub seek_late : n ≤ t.line → false ≡ is_used file n x
-      seek_late l = sym (used_late file n t.line x t.row (trace_at file u.walk) t.found (le-ltb t.line n l)) ∙ traced
+      here : ltb t.line n ≡ true
+      here = lt-ltb t.line n (omega (arith, took_line file s g.of t u k, g.before))
 
-      module _ (l : t.line < n) (y : Bool) (i : y ≡ stops_by t.found) where
+      module _ (y : Bool) (i : y ≡ stops_by t.found) where
         pub seek_stop : y ≡ true → false ≡ is_used file n x
         seek_stop j = sym (used_none file n t.line x t.row (trace_at file u.walk) t.found (sym i ∙ j)) ∙ traced
 
@@ -75,13 +99,17 @@ module _ (file : List ℕ) (n : ℕ) (x : List ℤ) (s : Turns) where
           named = d ∙ and_assoc (is_row t.found) (leads_component t.row) (same_names file t.row file x)
 
           pub seek_found : z ≡ true → true ≡ is_used file n x
-          seek_found j = sym (used_here file n t.line x t.row (trace_at file u.walk) t.found (lt-ltb t.line n l) (sym named ∙ j)) ∙ traced
+          seek_found j = sym (used_here file n t.line x t.row (trace_at file u.walk) t.found here (sym named ∙ j)) ∙ traced
 
-          pub seek_more : y ≡ false → z ≡ false → Seeking file n x u
-          seek_more j q = record {
-            of = took_left file s g.of t u k;
-            left = sym (used_on file n t.line x t.row (trace_at file u.walk) t.found (sym i ∙ j) (lt-ltb t.line n l) (sym named ∙ q)) ∙ traced;
-          }
+          module _ (j : y ≡ false) (q : z ≡ false) where
+            behind : used_in file n x (trace_at file u.walk) ≡ is_used file n x
+            behind = sym (used_on file n t.line x t.row (trace_at file u.walk) t.found (sym i ∙ j) here (sym named ∙ q)) ∙ traced
+
+            pub seek_late : n ≤ t.walk.line → false ≡ is_used file n x
+            seek_late l = sym (late_left file n x u.walk (left_going file u (took_left file s g.of t u k)) (omega (arith, ap (λ (w : Walk). w.line) k.walk))) ∙ behind
+
+            pub seek_more : t.walk.line < n → Seeking file n x u
+            seek_more l = record { of = took_left file s g.of t u k; before = omega (arith, ap (λ (w : Walk). w.line) k.walk); left = behind }
 
 -- a line that names no component as one before it did
 pub repeat_on : (file : List ℕ) (l : ℕ) (row : List ℤ) (t : Trace) (f : Found) → stops_by f ≡ false → ((is_row f && leads_component row) && is_used file l row) ≡ false

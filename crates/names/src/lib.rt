@@ -67,15 +67,19 @@ fn is_used(file: &[u8], n: u64, x: [i64; WIDTH]) -> bool
     requires { length file.now ≤ limit }
     ensures { result ≡ is_used file.now n x }
 {
+    if n < 2 {
+        return false;
+    }
     for t in Turns::of(file) {
-        if n <= t.line {
-            return false;
-        }
         if steps::stops(t.found) {
             return false;
         }
         if names_same(file, t, x) {
             return true;
+        }
+        // Line n is not judged once more: it may be nearly all of the file.
+        if n <= t.walk.line {
+            return false;
         }
     }
     false

@@ -160,6 +160,9 @@ below_zero z f = rw (to_z-of_z w64 z f) (go z)
     go (pos n) = le-ltb n 0 (omega arith)
     go (negsuc n) = refl
 
+pub below_back : (z : ℤ) → SFits w64 z → below (back z) ≡ below z
+below_back z f = ap below (to_z-of_z w64 z f)
+
 pub sign_none : (o : List ℕ) (at : ℕ) (z : ℤ) → below z ≡ false → Wrote o o at at (sign_of (below z) [])
 unfolding sign_of
 sign_none o at z h = rw h (record { is = refl; next = omega arith })
@@ -168,9 +171,9 @@ pub sign_minus : (o p : List ℕ) (at r : ℕ) (z : ℤ) → below z ≡ true �
 unfolding sign_of
 sign_minus o p at r z h w = rw h w
 
-pub minus_room : (z : ℤ) → SFits w64 z → (o : List ℕ) (at : ℕ) → lt_z (back z) (pos 0) ≡ true → at + length (sign_of (below z) []) ≤ length o → at < length o
+pub minus_room : (z : ℤ) (o : List ℕ) (at : ℕ) → below z ≡ true → at + length (sign_of (below z) []) ≤ length o → at < length o
 unfolding sign_of
-minus_room z f o at h r = let x : at + length (sign_of true []) ≤ length o = rw (sym (below_zero z f) ∙ h) at r in omega (arith, x)
+minus_room z o at h r = let x : at + length (sign_of true []) ≤ length o = rw h at r in omega (arith, x)
 
 pub sign_length : (z : ℤ) → length (sign_of (below z) []) ≡ cond (below z) 1 0
 unfolding sign_of
@@ -229,8 +232,8 @@ unfolding numeral_of
 log_count n None h e a b = rw e
 log_count n (Some k) h e a b = sym (digit_count 10 n k (omega arith) a b)
 
-pub as_byte : (z : ℤ) → SFits w64 z → (a : ℕ) → a ≡ bool_byte (lt_z (back z) (pos 0)) → a ≡ length (sign_of (below z) [])
-as_byte z f a e = e ∙ ap bool_byte (below_zero z f) ∙ go (below z) ∙ sym (sign_length z)
+pub as_byte : (z : ℤ) (b : Bool) (a : ℕ) → a ≡ bool_byte b → b ≡ below z → a ≡ length (sign_of (below z) [])
+as_byte z b a e h = e ∙ ap bool_byte h ∙ go (below z) ∙ sym (sign_length z)
   where
     go : (t : Bool) → bool_byte t ≡ cond t 1 0
     go true = refl

@@ -61,12 +61,16 @@ fn put_magnitude(out: &mut [u8], at: usize, c: u64) -> usize
     put_decimals(out, b, c % 100_000)
 }
 
-// A minus, only below zero.
+// A minus, only below zero. By `number::is_below`, here and in `sign_len`: its statement is on what the writer does.
 fn put_sign(out: &mut [u8], at: usize, z: i64) -> usize
     requires { at + length (sign_of (below z) []) ≤ length out.old }
     ensures { Wrote out.old out.new at result (sign_of (below z) []) }
 {
-    if z < 0 { put_byte(out, at, b'-') } else { at }
+    if number::is_below(z) {
+        put_byte(out, at, b'-')
+    } else {
+        at
+    }
 }
 
 // A count with five decimals, - only below zero.
@@ -109,7 +113,7 @@ fn magnitude_len(n: u64) -> usize
 fn sign_len(z: i64) -> usize
     ensures { result ≡ length (sign_of (below z) []) }
 {
-    usize::from(z < 0)
+    usize::from(number::is_below(z))
 }
 
 // How many bytes a count takes.

@@ -35,6 +35,13 @@ refusal_of unfit f = f
 refusal_of bad_loop f = LoopRule
 refusal_of repeated f = NameAgain
 
+-- the number of a refusal; n is that of the line's fields, where those do not fit
+abbrev pub refusal_number : Reason → ℕ → ℕ
+refusal_number misplaced n = 5
+refusal_number unfit n = n
+refusal_number bad_loop n = 11
+refusal_number repeated n = 12
+
 -- no section behind us, and none open
 abbrev pub start : State
 start = between nothing

@@ -7,7 +7,7 @@ ghost use Rattle.std.specs.Prelude.{◌≡◌};
 ghost use Rattle.law.specs.Kinds.{role_of};
 ghost use Rattle.order_loops.specs.Loops.{loop_after};
 ghost use Rattle.law.specs.Records.{shape_of, many_loops};
-ghost use Rattle.order.specs.Automaton.{refusal_of, accepting, after_title, start_of, stands_in, may_stand, after_point, on_or_out, among_points, moved_in, moved, stepped, type_at};
+ghost use Rattle.order.specs.Automaton.{refusal_of, refusal_number, accepting, after_title, start_of, stands_in, may_stand, after_point, on_or_out, among_points, moved_in, moved, stepped, type_at};
 
 use law::refusals::Refusal;
 use law::{FileType, Role, Rules};
@@ -179,6 +179,19 @@ pub fn refusal_of(e: Reason, fields: Refusal) -> Refusal
         Reason::Unfit => fields,
         Reason::BadLoop => Refusal::LoopRule,
         Reason::Repeated => Refusal::NameAgain,
+    }
+}
+
+// The number of a refusal; `fields` is that of the line's fields, where those do not fit. For callers that hold numbers, which may
+// be no refusal's.
+pub fn refusal_number(e: Reason, fields: u64) -> u64
+    ensures { result ≡ refusal_number e fields }
+{
+    match e {
+        Reason::Misplaced => Refusal::Misplaced.number(),
+        Reason::Unfit => fields,
+        Reason::BadLoop => Refusal::LoopRule.number(),
+        Reason::Repeated => Refusal::NameAgain.number(),
     }
 }
 

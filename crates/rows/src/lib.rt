@@ -80,12 +80,12 @@ pub fn column_at(row: &[i64], i: usize) -> i64
     row.get(i).copied().unwrap_or(0)
 }
 
-// Whether a row is of this kind.
-#[tactic(auto, using(basics::proofs::Integers::bits_same))]
+// Whether a row is of this kind. By `basics::same_integers`, whose statement is on what the programs do.
+#[tactic(auto, using(basics::proofs::Integers::back_same))]
 pub fn has_kind(row: [i64; WIDTH], kind: i64) -> bool
     ensures { result ≡ eq_z (kind_column row) kind }
 {
-    row[KIND] == kind
+    basics::same_integers(row[KIND], kind)
 }
 
 // The kind of an electrical or a mechanical component.

@@ -12,7 +12,7 @@ use lib.Dec.{eqb}
 use lib.IntN.{ℤ, pos, nat_abs}
 use lib.ListN.{length, drop, drop_of_length-le}
 use lib.Seq.{drop-drop, get_or-drop}
-use Rattle.basics.proofs.Integers.{back, bits_same}
+use Rattle.basics.proofs.Integers.{back, back_same, bits_same}
 use Rattle.rows.proofs.ColumnLaws.{column}
 use Rattle.rows.specs.Columns.{column_at, kind_column}
 use Rattle.basics.specs.Integers.{eq_z}
@@ -76,9 +76,9 @@ module _ (t : FieldType) (f : List ℕ) (x : List ℤ) (h : List ℕ) (y : List 
         to_z-of_z w64 (column_at y (c + 1)) g1,
       )
 
-  pub field_column : p ≡ false → eqb (of_z w64 (column_at x c)) (of_z w64 (column_at y c)) ≡ same_field t f (drop c x) h (drop c y)
+  pub field_column : (r : Bool) → p ≡ false → r ≡ eq_z (back (column_at x c)) (back (column_at y c)) → r ≡ same_field t f (drop c x) h (drop c y)
   unfolding same_field
-  field_column i = bits_same (column_at x c) (column_at y c) f0 g0 ∙ rw (sym e ∙ i, first_column x c, first_column y c)
+  field_column r i j = back_same (column_at x c) (column_at y c) r f0 g0 j ∙ rw (sym e ∙ i, first_column x c, first_column y c)
 
 -- what is left of two rows tells whether all their fields agree
 pub record Agreeing (g : Ignored) (k : ℕ) (f : List ℕ) (x : List ℤ) (h : List ℕ) (y : List ℤ) (n c i : ℕ) : Type 0 where

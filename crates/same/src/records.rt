@@ -16,7 +16,8 @@ fn holds_bytes(t: FieldType) -> bool
     matches!(t, FieldType::Text(_) | FieldType::Date)
 }
 
-// Whether two records have the same in a field of a type, which begins at a column.
+// Whether two records have the same in a field of a type, which begins at a column. Numbers by `basics::same_integers`, whose
+// statement is on what the programs do.
 fn same_field(
     t: FieldType,
     first: &[u8],
@@ -31,7 +32,7 @@ fn same_field(
     if holds_bytes(t) {
         return rows_texts::same_meanings(t, first, x[at], x[at + 1], second, y[at], y[at + 1]);
     }
-    x[at] == y[at]
+    basics::same_integers(x[at], y[at])
 }
 
 // Whether a comparison leaves out field i of the records of a kind.

@@ -1,6 +1,6 @@
 -- Laws of a line in a state, as the code leaves them.
 use Prim.Native.Nat.{ℕ, ◌+◌, ◌-◌, ◌^◌, ◌≤◌, ◌<◌}
-use mathlib.Core.Path.{◌≡◌, sym, ◌∙◌}
+use mathlib.Core.Path.{◌≡◌, refl, sym, ap, ◌∙◌}
 use mathlib.Core.List.{List}
 use mathlib.Core.Bool.{Bool, true, false, not}
 use native.Mathlib.Omega.{arith}
@@ -21,10 +21,12 @@ use Rattle.law.specs.declared.refusals.Refusal.TheVariants.{Misplaced, FieldCoun
 use Rattle.form.specs.declared.Keyword.{Keyword}
 use Rattle.law.specs.declared.FileType.{FileType}
 use Rattle.line_rows.specs.LineKinds.{kind_of}
-use Rattle.line_rows.specs.Rows.{filled}
+use Rattle.line_rows.specs.Rows.{refused_alone, filled, filled_until}
+use Rattle.line_rows.proofs.FillLaws.{alone_filled}
 use Rattle.line_rows.specs.declared.LineKind.{LineKind}
 use Rattle.line_rows.specs.declared.LineKind.TheVariants.{Key}
 use Rattle.line_rows.specs.declared.Filling.{Filling}
+use Rattle.line_rows.specs.declared.Stop.{Stop}
 use Rattle.order.specs.declared.Stage.{Stage}
 use Rattle.order.specs.declared.Phase.{Phase}
 use Rattle.order.specs.declared.State.{State}
@@ -32,6 +34,7 @@ use Rattle.order.specs.declared.State.TheVariants.{Between, Inside}
 use Rattle.order.specs.declared.Reason.{Reason}
 use Rattle.order.specs.Places.{data_kind, key_kind}
 use Rattle.order.specs.Automaton.{refusal_of, type_at, may_stand, stepped, is_role, moved}
+use Rattle.walk.specs.declared.Found.{Found}
 use Rattle.walk.specs.declared.Found.TheVariants.{Row, Nothing}
 use Rattle.walk.specs.declared.JudgedLine.{JudgedLine}
 use Rattle.walk.specs.Judging.{no_row, refused_by, free_by, moved_row, filled_by, of_kind, data_by, judged_by, judged}
@@ -43,6 +46,10 @@ free_between st g h = rw h
 pub free_inside : (st : State) (g : Stage) (s : ℕ) (p : Phase) (r : JudgedLine) → st ≡ Inside g s p → r ≡ refused_by st Misplaced → r ≡ free_by st
 free_inside st g s p r h e = let z : refused_by st Misplaced ≡ free_by st = rw h in e ∙ z
 
+pub free_is : (st : State) (f : Found) → f ≡ (free_by st).found → record { found = f; row = no_row; state = st } ≡ free_by st
+free_is (Between g) f e = rw e (free_between (Between g) g refl)
+free_is (Inside g s p) f e = rw e (free_inside (Inside g s p) g s p (refused_by (Inside g s p) Misplaced) refl refl)
+
 pub moved_next : (st t : State) (row : List ℤ) (o : Result State Reason) → o ≡ Next t → record { found = Row; row = row; state = t } ≡ moved_row st row o
 moved_next st t row o h = rw h
 
@@ -51,13 +58,13 @@ pub moved_not : (st : State) (row : List ℤ) (o : Result State Reason) (e : Rea
 moved_not st row o e n r h f g = rw (h, sym f) g
 
 -- fields that were read, or refused
-module _ (v : Rules) (st : State) (k : ℕ) (x : Result Filling Refusal) (r : JudgedLine) where
-  pub filled_bad : (e : Refusal) → x ≡ Err e → r ≡ refused_by st e → r ≡ filled_by v st k x
+module _ (v : Rules) (st : State) (k : ℕ) (x : Result Filling Stop) (r : JudgedLine) where
+  pub filled_bad : (e : Stop) → x ≡ Err e → r ≡ refused_by st e.refusal → r ≡ filled_by v st k (refused_alone x)
   unfolding filled_by
   filled_bad e h i = rw h i
 
   pub filled_good : (f : Filling) (t : FileType) (d : Point) (o : Result State Reason) → may_stand v st k ≡ true → x ≡ Ok f → t ≡ type_in_row f.row → d ≡ point_in f.row
-      → o ≡ moved v st k t d → r ≡ moved_row st f.row o → r ≡ filled_by v st k x
+      → o ≡ moved v st k t d → r ≡ moved_row st f.row o → r ≡ filled_by v st k (refused_alone x)
   unfolding filled_by stepped
   filled_good f t d o y h a b c e = rw (h, sym a, sym b, y, sym c) e
 
@@ -75,10 +82,12 @@ module _ (v : Rules) (st : State) (k : ℕ) (s : List ℕ) (b n m : ℕ) (x : Bo
     unfolding of_kind
     kind_count g q = rw (sym e ∙ not-false x h, ne_eqb n (length (types_of v k)) (λ z. g (z ∙ sym i))) q
 
-    pub kind_filled : (t : FileType) (f : Result Filling Refusal) → n ≡ c → t ≡ type_at st → f ≡ filled (record { rules = v; file = t }) k b s m → r ≡ filled_by v st k f
+    pub kind_filled : (t : FileType) (f : Result Filling Stop) → n ≡ c → t ≡ type_at st → f ≡ filled_until (record { rules = v; file = t }) k b s m → r ≡ filled_by v st k (refused_alone f)
         → r ≡ of_kind v st k s b n m
     unfolding of_kind
-    kind_filled t f g a d q = rw (sym e ∙ not-false x h, eq-eqb n (length (types_of v k)) (g ∙ i), sym a, sym d) q
+    kind_filled t f g a d q =
+        let z : refused_alone f ≡ filled (record { rules = v; file = t }) k b s m = ap refused_alone d ∙ alone_filled (record { rules = v; file = t }) k b s m in
+        rw (sym e ∙ not-false x h, eq-eqb n (length (types_of v k)) (g ∙ i), sym a, sym z) q
 
 -- a data line
 module _ (v : Rules) (st : State) (s : List ℕ) (b n m : ℕ) (marked : Bool) (k : ℕ) (j : Role) (x : Bool) (e : k ≡ data_kind v st marked) (i : j ≡ role_of v k) (y : x ≡ is_role j prop) (r : JudgedLine) where

@@ -30,7 +30,7 @@ module _ (file : List ℕ) (s : Turns) (i : Left file s) where
   left_steady : Steady file s.walk
   left_steady = subst (λ (z : List ℕ). Steady z s.walk) i.of s.steady
 
-  left_going : Going file s.walk s.walk.at
+  pub left_going : Going file s.walk s.walk.at
   left_going = record { steady = left_steady; here = refl }
 
   -- a count that is no more than the place of the next line is small

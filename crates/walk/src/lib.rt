@@ -15,12 +15,13 @@ pub enum Found {
     Refused(Refusal),
 }
 
-// A line judged: what it is, its row if it is a record, and the state after it.
+// A line judged: its row if it is a record, the state after it, and what it is. What it is stands last, here and in a turn: it has two
+// bytes, and what stood behind it would be copied from an odd place; a line without a field would take twice the time.
 #[derive(Clone, Copy)]
 pub struct JudgedLine {
-    pub found: Found,
     pub row: [i64; rows::WIDTH],
     pub state: State,
+    pub found: Found,
 }
 
 // Where a walk stands: the place of the next line, its number from 1, and the state before it.
@@ -31,11 +32,11 @@ pub struct Walk {
     pub state: State,
 }
 
-// One step of a walk: what the line is, its row, its number, and where the walk stands after it.
+// One step of a walk: a line's row, its number, where the walk stands after it, and what the line is.
 #[derive(Clone, Copy)]
 pub struct Turn {
-    pub found: Found,
     pub row: [i64; rows::WIDTH],
     pub line: u64,
     pub walk: Walk,
+    pub found: Found,
 }

@@ -3,12 +3,13 @@ ghost use Rattle.std.specs.Prelude.{◌≡◌, true, ◌+◌, ◌^◌, ◌≤◌
 ghost use Rattle.law.specs.Kinds.{role_of};
 ghost use Rattle.order.specs.Places.{section_in};
 ghost use Rattle.order.specs.Automaton.{may_stand};
+ghost use Rattle.line_rows.specs.Rows.{refused_alone};
 ghost use Rattle.walk.specs.Judging.{refused_by, free_by, moved_row, filled_by, of_kind, data_by, judged};
 
 use crate::{Found, JudgedLine};
 use law::refusals::Refusal;
 use law::{Context, FileType, Role, Rules};
-use line_rows::{Filling, LineKind};
+use line_rows::{Filling, LineKind, Stop};
 use order::{Reason, State};
 use rows::WIDTH;
 
@@ -23,17 +24,25 @@ fn refused(st: State, e: Refusal) -> JudgedLine
     }
 }
 
-// A comment or blank line stands between sections.
+// What a comment or blank line is: it stands between sections.
+fn free_found(st: State) -> Found
+    ensures { result ≡ (free_by st).found }
+{
+    match st {
+        State::Between(_) => Found::Nothing,
+        State::Inside(..) => Found::Refused(Refusal::Misplaced),
+    }
+}
+
+// The state behind such a line is the one before it.
+#[tactic(auto, using(crate::proofs::LineLaws::free_is))]
 fn free(st: State) -> JudgedLine
     ensures { result ≡ free_by st }
 {
-    match st {
-        State::Between(_) => JudgedLine {
-            found: Found::Nothing,
-            row: [0; WIDTH],
-            state: st,
-        },
-        State::Inside(..) => refused(st, Refusal::Misplaced),
+    JudgedLine {
+        row: [0; WIDTH],
+        state: st,
+        found: free_found(st),
     }
 }
 
@@ -53,9 +62,9 @@ fn taken(st: State, row: [i64; WIDTH], o: Result<State, Reason>) -> JudgedLine
 
 // A line of a kind that may stand, whose fields were read into a row or refused.
 #[tactic(auto, using(crate::proofs::LineLaws::filled_laws))]
-fn filled(v: Rules, st: State, kind: u64, role: Role, read: Result<Filling, Refusal>) -> JudgedLine
+fn filled(v: Rules, st: State, kind: u64, role: Role, read: Result<Filling, Stop>) -> JudgedLine
     requires { (may_stand v st kind ≡ true) × (role ≡ role_of v kind) }
-    ensures { result ≡ filled_by v st kind read }
+    ensures { result ≡ filled_by v st kind (refused_alone read) }
 {
     match read {
         Ok(f) => {
@@ -64,7 +73,7 @@ fn filled(v: Rules, st: State, kind: u64, role: Role, read: Result<Filling, Refu
             let d = rows::point_in(row);
             taken(st, row, order_states::moved(v, st, kind, role, t, d))
         }
-        Err(e) => refused(st, e),
+        Err(e) => refused(st, e.refusal),
     }
 }
 

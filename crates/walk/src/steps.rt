@@ -1,9 +1,9 @@
 // The steps of a walk. Every loop over files is made of them.
-ghost use Rattle.std.specs.Prelude.{◌≡◌, ◌^◌, ◌≤◌, ◌<◌, length};
+ghost use Rattle.std.specs.Prelude.{◌≡◌, ◌≤◌, length};
 ghost use Rattle.law.specs.Answers.{limit};
-ghost use Rattle.walk.specs.Walks.{begun, turned, turn_of, Steady, stops_by, is_row};
+ghost use Rattle.walk.specs.Walks.{begun, turn_of, Steady, stops_by, is_row};
 
-use crate::{Found, JudgedLine, Turn, Walk, line};
+use crate::{Found, Turn, Walk, line};
 use law::Rules;
 use order::{Stage, State};
 
@@ -18,35 +18,25 @@ pub fn begin() -> Walk
     }
 }
 
-// A step whose line, of this number, was judged so; the next one begins at `at`.
-fn behind(j: JudgedLine, at: usize, line: u64) -> Turn
-    requires { line < 2 ^ 62 }
-    ensures { result ≡ turned j at line }
-{
-    let found = j.found;
-    let row = j.row;
-    let walk = Walk {
-        at,
-        line: line + 1,
-        state: j.state,
-    };
-    Turn {
-        found,
-        row,
-        line,
-        walk,
-    }
-}
-
-// The next line of a file.
-pub fn turn(file: &[u8], w: Walk) -> Turn
-    requires { Steady file.now w }
-    ensures { result ≡ turn_of file.now w }
+// The next line of a file. The walk is lent, so that an iterator need not copy its own to ask.
+pub fn turn(file: &[u8], w: &Walk) -> Turn
+    requires { Steady file.now w.now }
+    ensures { result ≡ turn_of file.now w.now }
 {
     let at = w.at;
     let e = text::line_end(&file[at..]);
     let j = line::judge_line(Rules::Idf3, w.state, &file[at..], at, e.content);
-    behind(j, at + e.next, w.line)
+    let row = j.row;
+    Turn {
+        row,
+        line: w.line,
+        walk: Walk {
+            at: at + e.next,
+            line: w.line + 1,
+            state: j.state,
+        },
+        found: j.found,
+    }
 }
 
 // The lines of a file that are left to a walk, each judged in the state before it.
@@ -85,7 +75,7 @@ impl<'a> Iterator for Turns<'a> {
         if self.file.len() <= self.walk.at {
             return None;
         }
-        let t = turn(self.file, self.walk);
+        let t = turn(self.file, &self.walk);
         self.walk = t.walk;
         Some(t)
     }

@@ -1,7 +1,7 @@
 -- Laws of texts and words in a lent slice, as the code leaves them.
-use Prim.Native.Nat.{ℕ, suc, ◌+◌, ◌-◌, ◌≤◌, ◌<◌}
+use Prim.Native.Nat.{ℕ, suc, ◌+◌, ◌≤◌, ◌<◌}
 use mathlib.Core.Path.{◌≡◌, refl, sym, ap, ◌∙◌}
-use mathlib.Core.List.{List, [], ◌∷◌, append_assoc}
+use mathlib.Core.List.{List, [], ◌∷◌}
 use mathlib.Core.Bool.{Bool, true, false, not, cond, ◌||◌, ◌&&◌}
 use native.Mathlib.Numerals.{add-one}
 use native.Mathlib.Omega.{arith}
@@ -9,11 +9,9 @@ use borrow.Author.Tests.{ne_eqb}
 use lib.Dec.{eqb}
 use lib.ListN.{length, take, set, get_or, length-append}
 use lib.Seq.{take-suc, take_all}
-use borrow.Rule.Slice.PartMut.{put_mid}
 use Rattle.std.specs.List.{list_any, position, position_or_len}
 use Rattle.std.specs.Option.{unwrap_or}
-use Rattle.std.proofs.lemmas.List.{drop-drop}
-use Rattle.std.proofs.lemmas.List.Edits.{sets-eq}
+use Rattle.std.proofs.lemmas.List.{length-take-le}
 use Rattle.std.proofs.lemmas.List.Recursion.{is_position_or_len}
 use Rattle.std.proofs.lemmas.Bool.Decides.{nat_tests}
 use Rattle.law.specs.Bytes.{all_of, begins}
@@ -32,25 +30,22 @@ use Rattle.law.specs.Canonical.{no_space, needs_quotes, written}
 use Rattle.write_texts.specs.Meant.{meant_text}
 
 -- Bytes, one after the other
--- a part of a slice overwritten is what is written
-pub copy_over : (o s t : List ℕ) (at : ℕ) → at + length s ≤ length o → t ≡ s → Wrote o (put_mid at (at + length s - at) o t) at (at + length s) s
-copy_over o s t at h e = record {
-  is = rw e (let n : at + length s - at ≡ length s = omega arith in rw (n, sets-eq s o at h) (simp (append_assoc, drop-drop)));
-  next = refl;
-}
+pub copy_more : (o p s : List ℕ) (at i : ℕ) → i < length s → Wrote o p at (at + i) (take i s) → Wrote o (set p (at + i) (get_or s i 0)) at (at + (i + 1)) (take (i + 1) s)
+copy_more o p s at i h w =
+    let v : Wrote p (set p (at + i) (get_or s i 0)) (at + i) (at + (i + 1)) (get_or s i 0 ∷ []) = record { is = refl; next = omega arith } in
+    rw (add-one i, take-suc s i 0 h) (rw (add-one i) at (wrote_more w v))
+
+pub copy_end : (o p s : List ℕ) (at i : ℕ) → length s ≤ i → Wrote o p at (at + i) (take i s) → Wrote o p at (at + length s) s
+copy_end o p s at i h w =
+    let v : Wrote o p at (at + i) s = rw (take_all i s h) at w in
+    record { is = v.is; next = omega arith }
 
 -- letters in capitals, one after the other
 pub capitals_more : (o p s : List ℕ) (at i b : ℕ) → b ≡ capital (get_or s i 0) → i < length s → Wrote o p at (at + i) (take i (folded s)) → Wrote o (set p (at + i) b) at (at + (i + 1)) (take (i + 1) (folded s))
-capitals_more o p s at i b e h w =
-    let n : i < length (folded s) = omega (arith, folded_long s) in
-    let v : Wrote p (set p (at + i) b) (at + i) (at + (i + 1)) (b ∷ []) = record { is = refl; next = omega arith } in
-    rw (add-one i, take-suc (folded s) i 0 n, folded_at s i, sym e) (rw (add-one i) at (wrote_more w v))
+capitals_more o p s at i b e h w = rw (e ∙ sym (folded_at s i)) (copy_more o p (folded s) at i (omega (arith, folded_long s)) w)
 
 pub capitals_end : (o p s : List ℕ) (at i : ℕ) → length s ≤ i → Wrote o p at (at + i) (take i (folded s)) → Wrote o p at (at + length s) (folded s)
-capitals_end o p s at i h w =
-    let n : length (folded s) ≤ i = omega (arith, folded_long s) in
-    let v : Wrote o p at (at + i) (folded s) = rw (take_all i (folded s) n) at w in
-    record { is = v.is; next = omega (arith, folded_long s) }
+capitals_end o p s at i h w = rw (sym (folded_long s)) (copy_end o p (folded s) at i (omega (arith, folded_long s)) w)
 
 -- Quotes
 -- no byte is a space exactly if a space is not among them
@@ -163,15 +158,15 @@ front_trimmed (b ∷ row) = go (eqb b 32) (front_trimmed row)
     go true h = refl
     go false h = ap (λ (s : List ℕ). b ∷ s) h
 
+pub taken_long : (row : List ℕ) (n : ℕ) → n ≤ length row → n ≡ length (take n row)
+taken_long row n h = sym (length-take-le n row h)
+
 module _ (row : List ℕ) (n : ℕ) (e : n ≡ length (trimmed row)) where
   pub front_within : n ≤ length row
   front_within = rw e (trimmed_short row)
 
   front_is : take n row ≡ trimmed row
   front_is = rw e (front_trimmed row)
-
-  pub front_long : n ≡ length (take n row)
-  front_long = omega (arith, ap length front_is)
 
   pub front_room : (o : List ℕ) (at : ℕ) → at + length (trimmed row) ≤ length o → at + length (take n row) ≤ length o
   front_room o at h = omega (arith, ap length front_is)

@@ -17,9 +17,10 @@ pub fn put_bytes(out: &mut [u8], at: usize, s: &[u8]) -> usize
     requires { at + length s.now ≤ length out.old }
     ensures { Wrote out.old out.new at result s.now }
 {
-    let end = at + s.len();
-    out[at..end].copy_from_slice(s);
-    end
+    for (i, b) in s.iter().enumerate() {
+        out[at + i] = *b;
+    }
+    at + s.len()
 }
 
 // Whether a text holds no space.

@@ -1,5 +1,4 @@
 -- `line_rows::columns::fill_row` meets its contract. Assumes nothing.
-use Rattle.std.proofs.lemmas.Result.{err_from_is_err_and}
 use borrow.Author.Rules.{rules}
 use Rattle.line_rows.proofs.FillLaws.{fills_start, fills_over, fills_same, fills_ten, fills_type, fills_room, fills_refused, fills_more}
 use Rattle.line_rows.proofs.columns.fill_row.Goals as goal
@@ -15,12 +14,11 @@ field_type-t-requires c = search laws
 pub put_field-requires : goal.put_field-requires
 put_field-requires c = search laws
 
-pub returns-in_err-p : goal.returns-in_err-p
-returns-in_err-p c =
-    let p = err_from_is_err_and c.from_residual.result c.from_residual.ensures.1 in rw (p.1, p.2) (search (laws, c.in_err-p.was))
+pub returns-in-Err : goal.returns-in-Err
+returns-in-Err c = search laws
 
 pub loop-i-preserved : goal.loop-i-preserved
-loop-i-preserved c = search (laws, c.in_ok-p.was)
+loop-i-preserved c = search laws
 
 pub returns : goal.returns
 returns c = search laws

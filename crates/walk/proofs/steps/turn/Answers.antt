@@ -23,11 +23,8 @@ slice_bounds-judge_line-end c = search laws
 pub judge_line-j-requires : goal.judge_line-j-requires
 judge_line-j-requires c = search laws
 
-pub behind-requires : goal.behind-requires
-behind-requires c = search laws
-
 pub returns : goal.returns
 returns c = search laws
 
-pub overflow_add-at : goal.overflow_add-at
-overflow_add-at c = search laws
+pub overflow_add-result : goal.overflow_add-result
+overflow_add-result c = search laws
